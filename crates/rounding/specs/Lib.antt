@@ -1,0 +1,5 @@
+pub mod Format
+pub mod Exact
+pub mod Rules
+pub mod Rounding
+pub mod Laws
