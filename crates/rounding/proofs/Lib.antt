@@ -1,0 +1,5 @@
+pub mod Values
+pub mod Places
+pub mod RestKinds
+pub mod Chosen
+pub mod Faithful
