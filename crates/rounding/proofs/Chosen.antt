@@ -1,5 +1,5 @@
 -- The size that a rule chooses: it rises with the value, keeps what the format has, and is one of the two neighbours.
-use Prim.Native.Nat.{ℕ, _+_, _-_, _*_, _^_, _≤_, _<_}
+use Prim.Native.Nat.{ℕ, _+_, _-_, _*_, _%_, _^_, _≤_, _<_}
 use mathlib.Core.Path.{_≡_, refl, sym, ap, subst, _∙_}
 use mathlib.Core.Logic.{_⊎_, inl, inr, ⊎-elim}
 use mathlib.Core.Bool.{Bool, true, false, cond}
@@ -42,7 +42,7 @@ module _ (h a b c d : ℕ) (hp : 0 < h) (bp : 0 < b) (dp : 0 < d) where
       let s = splits h a b hp bp in
       let t = splits h c d hp dp in
       let tp : n * (d * 2 ^ j) + remainder h c d ≡ c =
-          subst (λ (z : ℕ). n * (d * 2 ^ z) + remainder h c d ≡ c) pj (subst (λ (z : ℕ). z * (d * 2 ^ place h c d) + remainder h c d ≡ c) wn (t .parts)) in
+      subst (λ (z : ℕ). n * (d * 2 ^ z) + remainder h c d ≡ c) pj (subst (λ (z : ℕ). z * (d * 2 ^ place h c d) + remainder h c d ≡ c) wn (t .parts)) in
       let x : (n * (b * 2 ^ j) + remainder h a b) * d ≡ a * d = ap (λ (z : ℕ). z * d) (s .parts) in
       let y : (n * (d * 2 ^ j) + remainder h c d) * b ≡ c * b = ap (λ (z : ℕ). z * b) tp in
       let r : remainder h a b * d ≤ remainder h c d * b = omega arith in
@@ -59,15 +59,15 @@ module _ (h a b c d : ℕ) (hp : 0 < h) (bp : 0 < b) (dp : 0 < d) where
       ⊎-elim
       (λ (lt : low h a b < low h c d). omega (arith, chosen-bounds m s h a b .1, chosen-bounds m s h c d .0))
       (λ (ge : low h c d ≤ low h a b).
-          let same : low h a b ≡ low h c d = omega (arith, low-rise le) in
-          let o : odd (whole h a b) ≡ odd (whole h c d) = ap odd (whole-same same) in
-          ⊎-elim
-          (λ (g : m .grow s (odd (whole h a b)) (rest h a b) ≡ true).
-              let g′ : m .grow s (odd (whole h c d)) (rest h c d) ≡ true =
-                  subst (λ (z : Bool). m .grow s z (rest h c d) ≡ true) o (law .rising s (odd (whole h a b)) (rest h a b) (rest h c d) (rest-rise same le) g) in
-              simp (g, g′) (omega arith))
-          (λ (g : m .grow s (odd (whole h a b)) (rest h a b) ≡ false). simp g (omega arith))
-          (cases-bool (m .grow s (odd (whole h a b)) (rest h a b))))
+      let same : low h a b ≡ low h c d = omega (arith, low-rise le) in
+      let o : odd (whole h a b) ≡ odd (whole h c d) = ap odd (whole-same same) in
+      ⊎-elim
+      (λ (g : m .grow s (odd (whole h a b)) (rest h a b) ≡ true).
+      let g′ : m .grow s (odd (whole h c d)) (rest h c d) ≡ true =
+      subst (λ (z : Bool). m .grow s z (rest h c d) ≡ true) o (law .rising s (odd (whole h a b)) (rest h a b) (rest h c d) (rest-rise same le) g) in
+      simp (g, g′) (omega arith))
+      (λ (g : m .grow s (odd (whole h a b)) (rest h a b) ≡ false). simp g (omega arith))
+      (cases-bool (m .grow s (odd (whole h a b)) (rest h a b))))
       (cases-lt (low h a b) (low h c d))
 
   -- equal values have the same low, rest, choice and flags
@@ -90,17 +90,17 @@ tiny-same : (h a b c d : ℕ) → 0 < b → 0 < d → a * d ≡ c * b → ltb a 
 tiny-same h a b c d bp dp e =
     ⊎-elim
     (λ (lt : a < b * h).
-        let p : a * d < b * h * d = mul-lt-mul-of-pos-right lt dp in
-        let q : c < d * h = lt-of-mul-lt-mul-right b (let t : c * b < d * h * b = omega arith in t) in
-        lt-ltb a (b * h) lt ∙ sym (lt-ltb c (d * h) q))
+    let p : a * d < b * h * d = mul-lt-mul-of-pos-right lt dp in
+    let q : c < d * h = lt-of-mul-lt-mul-right b (let t : c * b < d * h * b = omega arith in t) in
+    lt-ltb a (b * h) lt ∙ sym (lt-ltb c (d * h) q))
     (λ (ge : b * h ≤ a).
-        ⊎-elim
-        (λ (lt : c < d * h).
-            let p : c * b < d * h * b = mul-lt-mul-of-pos-right lt bp in
-            let q : b * h * d ≤ a * d = mul-le-mul-right d ge in
-            absurd (omega arith))
-        (λ (ge′ : d * h ≤ c). le-ltb a (b * h) ge ∙ sym (le-ltb c (d * h) ge′))
-        (cases-lt c (d * h)))
+    ⊎-elim
+    (λ (lt : c < d * h).
+    let p : c * b < d * h * b = mul-lt-mul-of-pos-right lt bp in
+    let q : b * h * d ≤ a * d = mul-le-mul-right d ge in
+    absurd (omega arith))
+    (λ (ge′ : d * h ≤ c). le-ltb a (b * h) ge ∙ sym (le-ltb c (d * h) ge′))
+    (cases-lt c (d * h)))
     (cases-lt a (b * h))
 
 pub raised-same : (h a b c d : ℕ) → 0 < h → 0 < b → 0 < d → a * d ≡ c * b → (m : Meaning) (s : Bool) (top : ℕ) → raised m s h top a b ≡ raised m s h top c d
@@ -114,14 +114,14 @@ unfolding settled
 settled-rise m s top n n′ le =
     ⊎-elim
     (λ (lt : n < top).
-        ⊎-elim
-        (λ (lt′ : n′ < top). simp (lt-ltb n top lt, lt-ltb n′ top lt′) le)
-        (λ (ge′ : top ≤ n′).
-            ⊎-elim
-            (λ (i : m .infinite s ≡ true). simp (lt-ltb n top lt, le-ltb n′ top ge′, i) (omega arith))
-            (λ (i : m .infinite s ≡ false). simp (lt-ltb n top lt, le-ltb n′ top ge′, i) (omega arith))
-            (cases-bool (m .infinite s)))
-        (cases-lt n′ top))
+    ⊎-elim
+    (λ (lt′ : n′ < top). simp (lt-ltb n top lt, lt-ltb n′ top lt′) le)
+    (λ (ge′ : top ≤ n′).
+    ⊎-elim
+    (λ (i : m .infinite s ≡ true). simp (lt-ltb n top lt, le-ltb n′ top ge′, i) (omega arith))
+    (λ (i : m .infinite s ≡ false). simp (lt-ltb n top lt, le-ltb n′ top ge′, i) (omega arith))
+    (cases-bool (m .infinite s)))
+    (cases-lt n′ top))
     (λ (ge : top ≤ n). let ge′ : top ≤ n′ = omega arith in simp (le-ltb n top ge, le-ltb n′ top ge′) (omega arith))
     (cases-lt n top)
 
@@ -137,10 +137,10 @@ settled-bounds m s top n =
     ⊎-elim
     (λ (lt : n < top). simp (lt-ltb n top lt) (record { top-le = omega arith; chosen-le = omega arith; else-greatest = inl refl }))
     (λ (ge : top ≤ n).
-        ⊎-elim
-        (λ (i : m .infinite s ≡ true). simp (le-ltb n top ge, i) (record { top-le = omega arith; chosen-le = omega arith; else-greatest = inr (omega arith) }))
-        (λ (i : m .infinite s ≡ false). simp (le-ltb n top ge, i) (record { top-le = omega arith; chosen-le = omega arith; else-greatest = inr (omega arith) }))
-        (cases-bool (m .infinite s)))
+    ⊎-elim
+    (λ (i : m .infinite s ≡ true). simp (le-ltb n top ge, i) (record { top-le = omega arith; chosen-le = omega arith; else-greatest = inr (omega arith) }))
+    (λ (i : m .infinite s ≡ false). simp (le-ltb n top ge, i) (record { top-le = omega arith; chosen-le = omega arith; else-greatest = inr (omega arith) }))
+    (cases-bool (m .infinite s)))
     (cases-lt n top)
 
 pub settled-finite : (m : Meaning) (s : Bool) (top n : ℕ) → n < top → settled m s top n ≡ n
@@ -159,3 +159,48 @@ chosen-exact m s h a b n law hp bp e =
     let z : remainder h a b ≡ 0 = omega (arith, t .parts, ap (λ (x : ℕ). x * b) w) in
     let k : kind (remainder h a b) (unit h a b) ≡ Nothing = kind-nothing (remainder h a b) (unit h a b) z in
     simp (k, law .exact s (odd (whole h a b))) (omega arith)
+
+-- tiny values are those whose low has exponent field 0
+pub tiny-low : (h a b : ℕ) → 0 < h → 0 < b → ltb a (b * h) ≡ ltb (low h a b) h
+tiny-low h a b hp bp =
+    let l = low-bounds h a b hp bp in
+    let at : value h (0 * h + h) ≡ h * 1 = value-at h 0 h hp (omega arith) (inl refl) in
+    let vh : value h h ≡ h = subst (λ (z : ℕ). value h z ≡ h * 1) (let e : 0 * h + h ≡ h = omega arith in e) at ∙ omega arith in
+    ⊎-elim
+    (λ (lt : low h a b < h).
+    let up : value h (low h a b + 1) ≤ value h h = value-le h (low h a b + 1) h hp (omega arith) in
+    lt-ltb a (b * h) (omega (arith, l .over, mul-le-mul-right b up, ap (λ (z : ℕ). z * b) vh)) ∙ sym (lt-ltb (low h a b) h lt))
+    (λ (ge : h ≤ low h a b).
+    let up : value h h ≤ value h (low h a b) = value-le h h (low h a b) hp ge in
+    le-ltb a (b * h) (omega (arith, l .under, mul-le-mul-right b up, ap (λ (z : ℕ). z * b) vh)) ∙ sym (le-ltb (low h a b) h ge))
+    (cases-lt (low h a b) h)
+
+-- choice and flags from a split of the value
+module _ (m : Meaning) (s : Bool) (h a b at units : ℕ) (left : Rest) (pj : place h a b ≡ at) (wu : whole h a b ≡ units) (rl : rest h a b ≡ left) where
+  pub low-from : low h a b ≡ at * h + units
+  unfolding low
+  low-from = simp (pj, wu)
+
+  pub chosen-from : chosen m s h a b ≡ cond (m .grow s (eqb (units % 2) 1) left) 1 0 + (at * h + units)
+  unfolding chosen odd
+  chosen-from = simp (wu, rl, low-from)
+
+  pub raised-from : (top : ℕ) → 0 < h → 0 < b → raised m s h top a b ≡ cond (ltb (cond (m .grow s (eqb (units % 2) 1) left) 1 0 + (at * h + units)) top) (inexact-flags left (ltb (at * h + units) h)) 20
+  unfolding raised
+  raised-from top hp bp = simp (chosen-from, rl, tiny-low h a b hp bp, low-from)
+
+  -- what the code has in hand: the low, and the chosen size
+  module _ (l n top : ℕ) (hp : 0 < h) (bp : 0 < b) (le : l ≡ at * h + units) (ne : n ≡ cond (m .grow s (eqb (units % 2) 1) left) 1 0 + l) where
+    chosen-is : chosen m s h a b ≡ n
+    chosen-is = chosen-from ∙ ap (λ (z : ℕ). cond (m .grow s (eqb (units % 2) 1) left) 1 0 + z) (sym le) ∙ sym ne
+
+    tiny-is : ltb a (b * h) ≡ ltb l h
+    tiny-is = tiny-low h a b hp bp ∙ ap (λ (z : ℕ). ltb z h) (low-from ∙ sym le)
+
+    pub finite-answer : n < top → (settled m s top (chosen m s h a b) ≡ n) × (raised m s h top a b ≡ inexact-flags left (ltb l h))
+    unfolding raised
+    finite-answer lt = (ap (settled m s top) chosen-is ∙ settled-finite m s top n lt, simp (chosen-is, rl, tiny-is, lt-ltb n top lt))
+
+    pub overflow-answer : top ≤ n → (settled m s top (chosen m s h a b) ≡ cond (m .infinite s) top (top - 1)) × (raised m s h top a b ≡ 20)
+    unfolding raised settled
+    overflow-answer ge = (simp (chosen-is, le-ltb n top ge), simp (chosen-is, le-ltb n top ge))

@@ -53,19 +53,19 @@ sizes-lt : (f : Format) (n n′ : ℕ) → 0 < f .hidden → n ≤ infinity f �
 sizes-lt f n n′ hp le le′ lt =
     ⊎-elim
     (λ (fin : n < infinity f).
-        ⊎-elim
-        (λ (fin′ : n′ < infinity f).
-            let p = of-finite f n fin in
-            let p′ = of-finite f n′ fin′ in
-            let q : value (f .hidden) n * 2 ^ f .scale < value (f .hidden) n′ * 2 ^ f .scale = simp (p .0, p .1, p′ .0, p′ .1) at lt in
-            size-lt (f .hidden) n n′ hp (lt-of-mul-lt-mul-right (2 ^ f .scale) q))
-        (λ (inf′ : infinity f ≤ n′). omega arith)
-        (cases-lt n′ (infinity f)))
+    ⊎-elim
+    (λ (fin′ : n′ < infinity f).
+    let p = of-finite f n fin in
+    let p′ = of-finite f n′ fin′ in
+    let q : value (f .hidden) n * 2 ^ f .scale < value (f .hidden) n′ * 2 ^ f .scale = simp (p .0, p .1, p′ .0, p′ .1) at lt in
+    size-lt (f .hidden) n n′ hp (lt-of-mul-lt-mul-right (2 ^ f .scale) q))
+    (λ (inf′ : infinity f ≤ n′). omega arith)
+    (cases-lt n′ (infinity f)))
     (λ (inf : infinity f ≤ n).
-        let e : n ≡ infinity f = omega arith in
-        let p = of-infinity f n e in
-        let q : 1 * den-of f n′ < num-of f n′ * 0 = simp (p .0, p .1) at lt in
-        absurd (omega arith))
+    let e : n ≡ infinity f = omega arith in
+    let p = of-infinity f n e in
+    let q : 1 * den-of f n′ < num-of f n′ * 0 = simp (p .0, p .1) at lt in
+    absurd (omega arith))
     (cases-lt n (infinity f))
 
 -- a size against a value a / b: in units of the smallest subnormal
@@ -74,10 +74,10 @@ below-value f n a b le lt =
     ⊎-elim
     (λ (fin : n < infinity f). let p = of-finite f n fin in (fin, simp (p .0, p .1) at lt))
     (λ (inf : infinity f ≤ n).
-        let e : n ≡ infinity f = omega arith in
-        let p = of-infinity f n e in
-        let q : 1 * b < a * 0 = simp (p .0, p .1) at lt in
-        absurd (omega arith))
+    let e : n ≡ infinity f = omega arith in
+    let p = of-infinity f n e in
+    let q : 1 * b < a * 0 = simp (p .0, p .1) at lt in
+    absurd (omega arith))
     (cases-lt n (infinity f))
 
 above-value : (f : Format) (n a b : ℕ) → n < infinity f → a * den-of f n < num-of f n * b → a * 2 ^ f .scale < value (f .hidden) n * b
@@ -95,13 +95,13 @@ module _ (f : Format) (m : Meaning) (s : Bool) (a b n : ℕ) (hp : 0 < f .hidden
       let v = below-value f n a b le under in
       let l = low-bounds h (a * 2 ^ f .scale) b hp bp in
       let near : n ≤ low h (a * 2 ^ f .scale) b =
-          ⊎-elim
-          (λ (far : low h (a * 2 ^ f .scale) b < n).
-              absurd
-              (let up : value h (low h (a * 2 ^ f .scale) b + 1) ≤ value h n = value-le h (low h (a * 2 ^ f .scale) b + 1) n hp (omega arith) in
-                  omega (arith, mul-le-mul-right b up, l .over, v .1)))
-          (λ z. z)
-          (cases-lt (low h (a * 2 ^ f .scale) b) n) in
+      ⊎-elim
+      (λ (far : low h (a * 2 ^ f .scale) b < n).
+      absurd
+      (let up : value h (low h (a * 2 ^ f .scale) b + 1) ≤ value h n = value-le h (low h (a * 2 ^ f .scale) b + 1) n hp (omega arith) in
+      omega (arith, mul-le-mul-right b up, l .over, v .1)))
+      (λ z. z)
+      (cases-lt (low h (a * 2 ^ f .scale) b) n) in
       ⊎-elim
       (λ (same : settled m s (infinity f) c ≡ c). omega (arith, chosen-bounds m s h (a * 2 ^ f .scale) b .0))
       (λ (great : infinity f ≤ settled m s (infinity f) c + 1). omega (arith, v .0))
@@ -119,8 +119,8 @@ module _ (f : Format) (m : Meaning) (s : Bool) (a b n : ℕ) (hp : 0 < f .hidden
       ⊎-elim
       (λ (far : low h (a * 2 ^ f .scale) b < n). omega (arith, t .chosen-le, chosen-bounds m s h (a * 2 ^ f .scale) b .1))
       (λ (near : n ≤ low h (a * 2 ^ f .scale) b).
-          let up : value h n ≤ value h (low h (a * 2 ^ f .scale) b) = value-le h n (low h (a * 2 ^ f .scale) b) hp near in
-          omega (arith, mul-le-mul-right b up, l .under))
+      let up : value h n ≤ value h (low h (a * 2 ^ f .scale) b) = value-le h n (low h (a * 2 ^ f .scale) b) hp near in
+      omega (arith, mul-le-mul-right b up, l .under))
       (cases-lt (low h (a * 2 ^ f .scale) b) n)
 
 -- an encoding that is no NaN has a size up to infinity
@@ -170,20 +170,20 @@ pub keeps-values : Keeps-values
 keeps-values f m v y proper law dp ok same =
     ⊎-elim
     (λ (z : v .num ≡ 0).
-        let top : 1 * 1 ≤ f .special * f .hidden = mul-le 1 1 (f .special) (f .hidden) (proper .1) (proper .0) in
-        kept f m v 0 proper law dp (omega arith)
-        (omega (arith, ap (λ (x : ℕ). x * v .den) (value-low (f .hidden) 0 (proper .0)), ap (λ (x : ℕ). x * 2 ^ f .scale) z)))
+    let top : 1 * 1 ≤ f .special * f .hidden = mul-le 1 1 (f .special) (f .hidden) (proper .1) (proper .0) in
+    kept f m v 0 proper law dp (omega arith)
+    (omega (arith, ap (λ (x : ℕ). x * v .den) (value-low (f .hidden) 0 (proper .0)), ap (λ (x : ℕ). x * 2 ^ f .scale) z)))
     (λ (nz : v .num ≡ 0 → ⊥).
-        let n : ℕ = size f y in
-        let le : n ≤ infinity f = valued-size f y (ok .1) in
-        let q = same-parts (negative f y) (v .negative) (num-of f n) (den-of f n) (v .num) (v .den) (omega arith) (same .0) (same .1) in
-        ⊎-elim
-        (λ (fin : n < infinity f). let p = of-finite f n fin in kept f m v n proper law dp fin (simp (p .0, p .1) at (q .1)))
-        (λ (inf : infinity f ≤ n).
-            let i = of-infinity f n (let t : n ≡ infinity f = omega arith in t) in
-            let x : 1 * v .den ≡ v .num * 0 = simp (i .0, i .1) at (q .1) in
-            absurd (omega arith))
-        (cases-lt n (infinity f)))
+    let n : ℕ = size f y in
+    let le : n ≤ infinity f = valued-size f y (ok .1) in
+    let q = same-parts (negative f y) (v .negative) (num-of f n) (den-of f n) (v .num) (v .den) (omega arith) (same .0) (same .1) in
+    ⊎-elim
+    (λ (fin : n < infinity f). let p = of-finite f n fin in kept f m v n proper law dp fin (simp (p .0, p .1) at (q .1)))
+    (λ (inf : infinity f ≤ n).
+    let i = of-infinity f n (let t : n ≡ infinity f = omega arith in t) in
+    let x : 1 * v .den ≡ v .num * 0 = simp (i .0, i .1) at (q .1) in
+    absurd (omega arith))
+    (cases-lt n (infinity f)))
     (cases-eq (v .num) 0)
 
 outcome : (f : Format) (s t : Bool) (x y k l : ℕ) → s ≡ t → x ≡ y → k ≡ l → _≡_ {A = Outcome} (record { bits = joined f s x; flags = k }) (record { bits = joined f t y; flags = l })
@@ -196,14 +196,14 @@ same-answers f m v w proper dp ep some same =
     let e : v .num * k * w .den ≡ w .num * k * v .den = omega (arith, ap (λ (z : ℕ). z * k) (q .1)) in
     let top : ℕ = infinity f in
     let c : chosen m (v .negative) (f .hidden) (v .num * k) (v .den) ≡ chosen m (w .negative) (f .hidden) (w .num * k) (w .den) =
-        subst (λ (s : Bool). chosen m (v .negative) (f .hidden) (v .num * k) (v .den) ≡ chosen m s (f .hidden) (w .num * k) (w .den)) (q .0)
-        (chosen-same (f .hidden) (v .num * k) (v .den) (w .num * k) (w .den) (proper .0) dp ep e m (v .negative)) in
+    subst (λ (s : Bool). chosen m (v .negative) (f .hidden) (v .num * k) (v .den) ≡ chosen m s (f .hidden) (w .num * k) (w .den)) (q .0)
+    (chosen-same (f .hidden) (v .num * k) (v .den) (w .num * k) (w .den) (proper .0) dp ep e m (v .negative)) in
     let r : raised m (v .negative) (f .hidden) top (v .num * k) (v .den) ≡ raised m (w .negative) (f .hidden) top (w .num * k) (w .den) =
-        subst (λ (s : Bool). raised m (v .negative) (f .hidden) top (v .num * k) (v .den) ≡ raised m s (f .hidden) top (w .num * k) (w .den)) (q .0)
-        (raised-same (f .hidden) (v .num * k) (v .den) (w .num * k) (w .den) (proper .0) dp ep e m (v .negative) top) in
+    subst (λ (s : Bool). raised m (v .negative) (f .hidden) top (v .num * k) (v .den) ≡ raised m s (f .hidden) top (w .num * k) (w .den)) (q .0)
+    (raised-same (f .hidden) (v .num * k) (v .den) (w .num * k) (w .den) (proper .0) dp ep e m (v .negative) top) in
     let z : settled m (v .negative) top (chosen m (v .negative) (f .hidden) (v .num * k) (v .den)) ≡ settled m (w .negative) top (chosen m (w .negative) (f .hidden) (w .num * k) (w .den)) =
-        subst (λ (s : Bool). settled m (v .negative) top (chosen m (v .negative) (f .hidden) (v .num * k) (v .den)) ≡ settled m s top (chosen m (w .negative) (f .hidden) (w .num * k) (w .den))) (q .0)
-        (ap (settled m (v .negative) top) c) in
+    subst (λ (s : Bool). settled m (v .negative) top (chosen m (v .negative) (f .hidden) (v .num * k) (v .den)) ≡ settled m s top (chosen m (w .negative) (f .hidden) (w .num * k) (w .den))) (q .0)
+    (ap (settled m (v .negative) top) c) in
     outcome f (v .negative) (w .negative) (rounded-size f m v) (rounded-size f m w) (rounded f m v .flags) (rounded f m w .flags) (q .0) z r
 
 -- a lesser size without sign, rounded, is not the greater

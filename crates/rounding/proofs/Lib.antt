@@ -3,3 +3,5 @@ pub mod Places
 pub mod RestKinds
 pub mod Chosen
 pub mod Faithful
+pub mod Cuts
+pub mod Truncations

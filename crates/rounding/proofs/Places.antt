@@ -20,19 +20,19 @@ doubled (suc n) a c lt =
     ⊎-elim
     (λ (e : ltb a c ≡ true). rw (e, doublings) (omega (arith, ltb-true a c e), inl refl))
     (λ (e : ltb a c ≡ false).
-        let more : 2 ^ suc n ≡ 2 * 2 ^ n = rw add-one at (pow-next n) in
-        let rec = doubled n a (2 * c) (omega (arith, ap (λ (z : ℕ). c * z) more)) in
-        let j : ℕ = doublings n a (2 * c) in
-        let p : 2 ^ suc j ≡ 2 * 2 ^ j = rw add-one at (pow-next j) in
-        let q : c * 2 ^ suc j ≡ c * (2 * 2 ^ j) = ap (λ (z : ℕ). c * z) p in
-        rw (e, doublings)
-        ( omega (arith, rec .0, q)
-        , inr
+    let more : 2 ^ suc n ≡ 2 * 2 ^ n = rw add-one at (pow-next n) in
+    let rec = doubled n a (2 * c) (omega (arith, ap (λ (z : ℕ). c * z) more)) in
+    let j : ℕ = doublings n a (2 * c) in
+    let p : 2 ^ suc j ≡ 2 * 2 ^ j = rw add-one at (pow-next j) in
+    let q : c * 2 ^ suc j ≡ c * (2 * 2 ^ j) = ap (λ (z : ℕ). c * z) p in
+    rw (e, doublings) (
+      omega (arith, rec .0, q),
+      inr
           (⊎-elim
-              (λ (z : doublings n a (2 * c) ≡ 0). let one : 2 ^ j ≡ 1 = ap (λ (i : ℕ). 2 ^ i) z in omega (arith, q, ap (λ (x : ℕ). c * x) one, ltb-false a c e))
-              (λ (le : 2 * c * 2 ^ doublings n a (2 * c) ≤ 2 * a). omega (arith, q, le))
-              (rec .1))
-        ))
+          (λ (z : doublings n a (2 * c) ≡ 0). let one : 2 ^ j ≡ 1 = ap (λ (i : ℕ). 2 ^ i) z in omega (arith, q, ap (λ (x : ℕ). c * x) one, ltb-false a c e))
+          (λ (le : 2 * c * 2 ^ doublings n a (2 * c) ≤ 2 * a). omega (arith, q, le))
+          (rec .1)),
+    ))
     (cases-bool (ltb a c))
 
 below-pow : (a : ℕ) → a < 2 ^ a
@@ -62,12 +62,12 @@ splits h a b hp bp =
     let parts : a / u * u + a % u ≡ a = div-add-mod' a u in
     let short : a / u < 2 * h = lt-of-mul-lt-mul-right u (omega (arith, d .0, parts)) in
     let full : (j ≡ 0) ⊎ (h ≤ a / u) =
-        ⊎-elim (λ z. inl z)
-        (λ (le : c * 2 ^ j ≤ 2 * a).
-            inr
-            (⊎-elim (λ (lt : a / u < h). let t : (a / u + 1) * u ≤ h * u = mul-le-mul-right u (omega arith) in omega (arith, parts, mod-lt a up, le, t))
-                (λ (ge : h ≤ a / u). ge) (cases-lt (a / u) h)))
-        (d .1) in
+    ⊎-elim (λ z. inl z)
+    (λ (le : c * 2 ^ j ≤ 2 * a).
+    inr
+    (⊎-elim (λ (lt : a / u < h). let t : (a / u + 1) * u ≤ h * u = mul-le-mul-right u (omega arith) in omega (arith, parts, mod-lt a up, le, t))
+    (λ (ge : h ≤ a / u). ge) (cases-lt (a / u) h)))
+    (d .1) in
     record { parts = parts; left = mod-lt a up; short = short; full = full }
 
 -- the greatest size not above the value lies where it should
@@ -81,10 +81,10 @@ low-of-split h a b j m r hp s =
     let e : j * h + (m + 1) ≡ j * h + m + 1 = omega arith in
     let c : (j ≡ 0) ⊎ (h ≤ m + 1) = ⊎-elim (λ z. inl z) (λ z. inr (omega arith)) (s .full) in
     let w : value h (j * h + m + 1) ≡ (m + 1) * 2 ^ j =
-        subst (λ (z : ℕ). value h z ≡ (m + 1) * 2 ^ j) e (value-at h j (m + 1) hp (omega (arith, s .short)) c) in
-    record
-    { under = omega (arith, ap (λ (z : ℕ). z * b) v, s .parts)
-    ; over = omega (arith, ap (λ (z : ℕ). z * b) w, s .parts, s .left)
+    subst (λ (z : ℕ). value h z ≡ (m + 1) * 2 ^ j) e (value-at h j (m + 1) hp (omega (arith, s .short)) c) in
+    record {
+      under = omega (arith, ap (λ (z : ℕ). z * b) v, s .parts);
+      over = omega (arith, ap (λ (z : ℕ). z * b) w, s .parts, s .left);
     }
 
 pub low-bounds : (h a b : ℕ) → 0 < h → 0 < b → Low h a b (low h a b)
@@ -96,11 +96,11 @@ pub low-le : (h a b c d n n′ : ℕ) → 0 < h → 0 < b → 0 < d → a * d �
 low-le h a b c d n n′ hp bp dp le l l′ =
     ⊎-elim
     (λ (lt : n′ < n).
-        let up : value h (n′ + 1) ≤ value h n = value-le h (n′ + 1) n hp (omega arith) in
-        let p : c * b < value h (n′ + 1) * d * b = mul-lt-mul-of-pos-right (l′ .over) bp in
-        let q : value h n * b * d ≤ a * d = mul-le-mul-right d (l .under) in
-        let r : value h (n′ + 1) * (b * d) ≤ value h n * (b * d) = mul-le-mul-right (b * d) up in
-        omega (arith, p, q, r, le))
+    let up : value h (n′ + 1) ≤ value h n = value-le h (n′ + 1) n hp (omega arith) in
+    let p : c * b < value h (n′ + 1) * d * b = mul-lt-mul-of-pos-right (l′ .over) bp in
+    let q : value h n * b * d ≤ a * d = mul-le-mul-right d (l .under) in
+    let r : value h (n′ + 1) * (b * d) ≤ value h n * (b * d) = mul-le-mul-right (b * d) up in
+    omega (arith, p, q, r, le))
     (λ (ge : n ≤ n′). ge)
     (cases-lt n′ n)
 
@@ -129,5 +129,5 @@ split-only h a b j m r hp bp s =
     let pj : place h a b ≡ j = l .0 ∙ ap (shift h) same ∙ sym (k .0) in
     let wm : whole h a b ≡ m = l .1 ∙ ap (significand h) same ∙ sym (k .1) in
     let p : m * (b * 2 ^ j) + remainder h a b ≡ a =
-        subst (λ (z : ℕ). m * (b * 2 ^ z) + remainder h a b ≡ a) pj (subst (λ (z : ℕ). z * (b * 2 ^ place h a b) + remainder h a b ≡ a) wm (t .parts)) in
+    subst (λ (z : ℕ). m * (b * 2 ^ z) + remainder h a b ≡ a) pj (subst (λ (z : ℕ). z * (b * 2 ^ place h a b) + remainder h a b ≡ a) wm (t .parts)) in
     (pj, wm, omega (arith, p, s .parts))

@@ -26,15 +26,15 @@ kind-cases r u P none under half over =
     ⊎-elim
     (λ (e : eqb r 0 ≡ true). rw (e, kind) (none (eqb-true r 0 e)))
     (λ (e : eqb r 0 ≡ false).
-        let rp : 0 < r = omega (arith, eqb-false r 0 e) in
-        ⊎-elim
-        (λ (l : ltb (2 * r) u ≡ true). rw (e, l, kind) (under rp (ltb-true (2 * r) u l)))
-        (λ (l : ltb (2 * r) u ≡ false).
-            ⊎-elim
-            (λ (q : eqb (2 * r) u ≡ true). rw (e, l, q, kind) (half rp (eqb-true (2 * r) u q)))
-            (λ (q : eqb (2 * r) u ≡ false). rw (e, l, q, kind) (over rp (omega (arith, ltb-false (2 * r) u l, eqb-false (2 * r) u q))))
-            (cases-bool (eqb (2 * r) u)))
-        (cases-bool (ltb (2 * r) u)))
+    let rp : 0 < r = omega (arith, eqb-false r 0 e) in
+    ⊎-elim
+    (λ (l : ltb (2 * r) u ≡ true). rw (e, l, kind) (under rp (ltb-true (2 * r) u l)))
+    (λ (l : ltb (2 * r) u ≡ false).
+    ⊎-elim
+    (λ (q : eqb (2 * r) u ≡ true). rw (e, l, q, kind) (half rp (eqb-true (2 * r) u q)))
+    (λ (q : eqb (2 * r) u ≡ false). rw (e, l, q, kind) (over rp (omega (arith, ltb-false (2 * r) u l, eqb-false (2 * r) u q))))
+    (cases-bool (eqb (2 * r) u)))
+    (cases-bool (ltb (2 * r) u)))
     (cases-bool (eqb r 0))
 
 pub kind-nothing : (r u : ℕ) → r ≡ 0 → kind r u ≡ Nothing
@@ -55,18 +55,18 @@ kind-rise r u r′ u′ up up′ le =
     kind-cases r u (λ k. rank k ≤ rank (kind r′ u′))
     (λ _. omega arith)
     (λ p _.
-        let some : 1 * 1 ≤ r * u′ = mul-le 1 1 r u′ p up′ in
-        kind-cases r′ u′ (λ k. 1 ≤ rank k)
-        (λ (z : r′ ≡ 0). let y : r′ * u ≡ 0 * u = ap (λ (x : ℕ). x * u) z in absurd (omega arith))
-        (λ _ _. omega arith) (λ _ _. omega arith) (λ _ _. omega arith))
+    let some : 1 * 1 ≤ r * u′ = mul-le 1 1 r u′ p up′ in
+    kind-cases r′ u′ (λ k. 1 ≤ rank k)
+    (λ (z : r′ ≡ 0). let y : r′ * u ≡ 0 * u = ap (λ (x : ℕ). x * u) z in absurd (omega arith))
+    (λ _ _. omega arith) (λ _ _. omega arith) (λ _ _. omega arith))
     (λ p e.
-        let many : u * u′ ≤ 2 * r′ * u = omega (arith, ap (λ (x : ℕ). x * u′) e) in
-        let enough : u′ ≤ 2 * r′ = le-of-mul-le-mul-right (let t : u′ * u ≤ 2 * r′ * u = omega arith in t) up in
-        kind-cases r′ u′ (λ k. 2 ≤ rank k) (λ zz. absurd (omega arith)) (λ pp qq. absurd (omega arith)) (λ _ _. omega arith) (λ _ _. omega arith))
+    let many : u * u′ ≤ 2 * r′ * u = omega (arith, ap (λ (x : ℕ). x * u′) e) in
+    let enough : u′ ≤ 2 * r′ = le-of-mul-le-mul-right (let t : u′ * u ≤ 2 * r′ * u = omega arith in t) up in
+    kind-cases r′ u′ (λ k. 2 ≤ rank k) (λ zz. absurd (omega arith)) (λ pp qq. absurd (omega arith)) (λ _ _. omega arith) (λ _ _. omega arith))
     (λ p l.
-        let many : u * u′ < 2 * r * u′ = mul-lt-mul-of-pos-right l up′ in
-        let enough : u′ < 2 * r′ = lt-of-mul-lt-mul-right u (let t : u′ * u < 2 * r′ * u = omega arith in t) in
-        kind-cases r′ u′ (λ k. 3 ≤ rank k) (λ zz. absurd (omega arith)) (λ pp qq. absurd (omega arith)) (λ pp qq. absurd (omega arith)) (λ _ _. omega arith))
+    let many : u * u′ < 2 * r * u′ = mul-lt-mul-of-pos-right l up′ in
+    let enough : u′ < 2 * r′ = lt-of-mul-lt-mul-right u (let t : u′ * u < 2 * r′ * u = omega arith in t) in
+    kind-cases r′ u′ (λ k. 3 ≤ rank k) (λ zz. absurd (omega arith)) (λ pp qq. absurd (omega arith)) (λ pp qq. absurd (omega arith)) (λ _ _. omega arith))
 
 -- a kind is known by its rank
 of-rank : ℕ → Rest

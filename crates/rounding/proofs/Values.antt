@@ -31,20 +31,20 @@ pub value-at : (h j m : ℕ) → 0 < h → m ≤ 2 * h → (j ≡ 0) ⊎ (h ≤ 
 value-at h j m hp le c =
     ⊎-elim
     (λ (lt : m < h).
-        let j0 : j ≡ 0 = ⊎-elim (λ z. z) (λ ge. omega arith) c in
-        subst (λ (i : ℕ). value h (i * h + m) ≡ m * 2 ^ i) (sym j0)
-        (let e : 0 * h + m ≡ m = omega arith in rw e (value-low h m lt ∙ omega arith)))
+    let j0 : j ≡ 0 = ⊎-elim (λ z. z) (λ ge. omega arith) c in
+    subst (λ (i : ℕ). value h (i * h + m) ≡ m * 2 ^ i) (sym j0)
+    (let e : 0 * h + m ≡ m = omega arith in rw e (value-low h m lt ∙ omega arith)))
     (λ (ge : h ≤ m).
-        ⊎-elim
-        (λ (lt : m - h < h).
-            let e : j * h + m ≡ (j + 1) * h + (m - h) = omega arith in
-            let f : h + (m - h) ≡ m = omega arith in
-            rw e (value-high h j (m - h) lt ∙ rw f))
-        (λ (full : h ≤ m - h).
-            let e : j * h + m ≡ ((j + 1) + 1) * h + 0 = omega arith in
-            let twice : m ≡ 2 * h = omega arith in
-            rw e (value-high h (j + 1) 0 hp ∙ omega (arith, ap (λ (z : ℕ). h * z) (pow-next j), ap (λ (z : ℕ). z * 2 ^ j) twice)))
-        (cases-lt (m - h) h))
+    ⊎-elim
+    (λ (lt : m - h < h).
+    let e : j * h + m ≡ (j + 1) * h + (m - h) = omega arith in
+    let f : h + (m - h) ≡ m = omega arith in
+    rw e (value-high h j (m - h) lt ∙ rw f))
+    (λ (full : h ≤ m - h).
+    let e : j * h + m ≡ ((j + 1) + 1) * h + 0 = omega arith in
+    let twice : m ≡ 2 * h = omega arith in
+    rw e (value-high h (j + 1) 0 hp ∙ omega (arith, ap (λ (z : ℕ). h * z) (pow-next j), ap (λ (z : ℕ). z * 2 ^ j) twice)))
+    (cases-lt (m - h) h))
     (cases-lt m h)
 
 -- every size is a significand at a place
@@ -59,11 +59,11 @@ laid h n hp =
     ⊎-elim
     (λ (lt : n < h). let z : n / h ≡ 0 = div-eq-of-lt lt in simp (lt-ltb n h lt, z) (record { at = omega arith; short = omega arith; full = inl refl }))
     (λ (ge : h ≤ n).
-        let q : 1 ≤ n / h = le-div 1 n h hp (omega arith) in
-        let r : n % h < h = mod-lt n hp in
-        let s : (n / h - 1 + 1) ≡ n / h = omega arith in
-        let w : (n / h - 1 + 1) * h ≡ n / h * h = ap (λ (z : ℕ). z * h) s in
-        simp (le-ltb n h ge) (record { at = omega (arith, div-add-mod' n h, w); short = omega arith; full = inr (omega arith) }))
+    let q : 1 ≤ n / h = le-div 1 n h hp (omega arith) in
+    let r : n % h < h = mod-lt n hp in
+    let s : (n / h - 1 + 1) ≡ n / h = omega arith in
+    let w : (n / h - 1 + 1) * h ≡ n / h * h = ap (λ (z : ℕ). z * h) s in
+    simp (le-ltb n h ge) (record { at = omega (arith, div-add-mod' n h, w); short = omega arith; full = inr (omega arith) }))
     (cases-lt n h)
 
 pub value-step : (h n : ℕ) → 0 < h → value h n < value h (n + 1)
@@ -103,15 +103,15 @@ unfolding significand shift
 laid-only h n j m hp l =
     ⊎-elim
     (λ (lt : m < h).
-        let j0 : j ≡ 0 = ⊎-elim (λ z. z) (λ ge. omega arith) (l .full) in
-        let n0 : m ≡ n = subst (λ (i : ℕ). i * h + m ≡ n → m ≡ n) (sym j0) (λ e. omega (arith, e)) (l .at) in
-        let nh : n < h = omega arith in
-        simp (lt-ltb n h nh, div-eq-of-lt nh) (omega arith, n0))
+    let j0 : j ≡ 0 = ⊎-elim (λ z. z) (λ ge. omega arith) (l .full) in
+    let n0 : m ≡ n = subst (λ (i : ℕ). i * h + m ≡ n → m ≡ n) (sym j0) (λ e. omega (arith, e)) (l .at) in
+    let nh : n < h = omega arith in
+    simp (lt-ltb n h nh, div-eq-of-lt nh) (omega arith, n0))
     (λ (ge : h ≤ m).
-        let t : m - h < h = omega (arith, l .short) in
-        let e : (j + 1) * h + (m - h) ≡ n = omega (arith, l .at) in
-        let d : n / h ≡ j + 1 = subst (λ (z : ℕ). z / h ≡ j + 1) e (div-mul-add (j + 1) h (m - h) t) in
-        let r : n % h ≡ m - h = subst (λ (z : ℕ). z % h ≡ m - h) e (mod-mul-add (j + 1) h (m - h) t) in
-        let nh : h ≤ n = omega arith in
-        simp (le-ltb n h nh, d, r) (omega arith, omega arith))
+    let t : m - h < h = omega (arith, l .short) in
+    let e : (j + 1) * h + (m - h) ≡ n = omega (arith, l .at) in
+    let d : n / h ≡ j + 1 = subst (λ (z : ℕ). z / h ≡ j + 1) e (div-mul-add (j + 1) h (m - h) t) in
+    let r : n % h ≡ m - h = subst (λ (z : ℕ). z % h ≡ m - h) e (mod-mul-add (j + 1) h (m - h) t) in
+    let nh : h ≤ n = omega arith in
+    simp (le-ltb n h nh, d, r) (omega arith, omega arith))
     (cases-lt m h)

@@ -3,3 +3,4 @@ pub mod Exact
 pub mod Rules
 pub mod Rounding
 pub mod Laws
+pub mod Truncation
