@@ -1,0 +1,2 @@
+-- What it is to be an engine picked by name.
+pub mod Choice

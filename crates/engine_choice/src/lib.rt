@@ -1,0 +1,45 @@
+// Which engine, by name: a plain enum that is an engine itself, so that a program can pick one as it runs.
+ghost use mathlib.Core.Path.{_≡_};
+ghost use Rattle.engines.specs.Meaning.{none};
+ghost use Rattle.engine_choice.specs.Choice.{named, logOf};
+use engines::Engine;
+use engines::Log;
+use engines::digits::Digits;
+use engines::digits::DigitsEngine;
+
+#[derive(Clone, Copy)]
+pub enum EngineName {
+    Digits,
+}
+
+#[derive(Drop)]
+pub enum AnyEngine {
+    Digits(Digits),
+}
+
+impl AnyEngine {
+    pub fn new(name: EngineName) -> AnyEngine
+        ensures which { λ r. ⌜ named r ≡ name ⌝ }
+        ensures fresh { λ r. ⌜ logOf r ≡ none ⌝ }
+    {
+        match name {
+            EngineName::Digits => AnyEngine::Digits(Digits::new()),
+        }
+    }
+}
+
+pub impl Engine for AnyEngine as ChosenEngine {
+    ghost logged = { logOf };
+
+    fn estimate(&mut self, divisor: u32, dividend: u64) -> u32 {
+        match self {
+            AnyEngine::Digits(engine) => engine.estimate(divisor, dividend),
+        }
+    }
+
+    fn log(&self) -> Log {
+        match self {
+            AnyEngine::Digits(engine) => engine.log(),
+        }
+    }
+}

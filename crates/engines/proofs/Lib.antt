@@ -1,0 +1,2 @@
+mod Recurrence
+mod Correction
