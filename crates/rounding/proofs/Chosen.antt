@@ -147,18 +147,28 @@ pub settled-finite : (m : Meaning) (s : Bool) (top n : ℕ) → n < top → sett
 unfolding settled
 settled-finite m s top n lt = simp (lt-ltb n top lt)
 
--- a value that size n has is kept
-pub chosen-exact : (m : Meaning) (s : Bool) (h a b n : ℕ) → Lawful m → 0 < h → 0 < b → value h n * b ≡ a → chosen m s h a b ≡ n
-unfolding chosen rest low
-chosen-exact m s h a b n law hp bp e =
+-- a value that size n has: nothing is left, and it is kept
+pub rest-exact : (h a b n : ℕ) → 0 < h → 0 < b → value h n * b ≡ a → (low h a b ≡ n) × (rest h a b ≡ Nothing)
+unfolding rest low
+rest-exact h a b n hp bp e =
     let l : Low h a b n = record { under = omega arith; over = omega (arith, mul-lt-mul-of-pos-right (value-step h n hp) bp) } in
     let same : place h a b * h + whole h a b ≡ n = low-only h a b (low h a b) n hp bp (low-bounds h a b hp bp) l in
     let t = splits h a b hp bp in
     let v : value h (place h a b * h + whole h a b) ≡ whole h a b * 2 ^ place h a b = value-at h (place h a b) (whole h a b) hp (omega (arith, t .short)) (t .full) in
     let w : value h n ≡ whole h a b * 2 ^ place h a b = subst (λ (z : ℕ). value h z ≡ whole h a b * 2 ^ place h a b) same v in
     let z : remainder h a b ≡ 0 = omega (arith, t .parts, ap (λ (x : ℕ). x * b) w) in
-    let k : kind (remainder h a b) (unit h a b) ≡ Nothing = kind-nothing (remainder h a b) (unit h a b) z in
-    simp (k, law .exact s (odd (whole h a b))) (omega arith)
+    (same, kind-nothing (remainder h a b) (unit h a b) z)
+
+pub chosen-exact : (m : Meaning) (s : Bool) (h a b n : ℕ) → Lawful m → 0 < h → 0 < b → value h n * b ≡ a → chosen m s h a b ≡ n
+unfolding chosen
+chosen-exact m s h a b n law hp bp e =
+    let r = rest-exact h a b n hp bp e in
+    simp (r .0, r .1, law .exact s (odd (whole h a b))) (omega arith)
+
+pub raised-exact : (m : Meaning) (s : Bool) (h top a b n : ℕ) → Lawful m → 0 < h → 0 < b → value h n * b ≡ a → n < top → raised m s h top a b ≡ 0
+unfolding raised
+raised-exact m s h top a b n law hp bp e lt =
+    simp (chosen-exact m s h a b n law hp bp e, rest-exact h a b n hp bp e .1, lt-ltb n top lt)
 
 -- tiny values are those whose low has exponent field 0
 pub tiny-low : (h a b : ℕ) → 0 < h → 0 < b → ltb a (b * h) ≡ ltb (low h a b) h

@@ -15,7 +15,7 @@ use Rattle.rounding.specs.Rounding.{Outcome, low, chosen, settled, raised, rou
 use Rattle.rounding.specs.Laws.{Proper, Valued, Keeps-values, Neighbours, Same-answers, Rising-answers}
 use Rattle.rounding.proofs.Values.{value-le, value-lt, size-lt, value-low}
 use Rattle.rounding.proofs.Places.{Low, low-bounds}
-use Rattle.rounding.proofs.Chosen.{chosen-bounds, chosen-rise, chosen-same, raised-same, settled-rise, Settled, settled-bounds, settled-finite, chosen-exact}
+use Rattle.rounding.proofs.Chosen.{chosen-bounds, chosen-rise, chosen-same, raised-same, settled-rise, Settled, settled-bounds, settled-finite, chosen-exact, raised-exact}
 
 -- what a size is worth without its sign: num-of / den-of
 abbrev num-of : Format → ℕ → ℕ
@@ -237,3 +237,15 @@ rising-answers f m v w proper law dp ep lt back =
     let q = worth-joined f (w .negative) (rounded-size f m w) (proper .0) (ws .top-le) in
     rise f m (v .negative) (w .negative) (v .num) (v .den) (w .num) (w .den) (proper .0) law dp ep lt
     (subst (λ (x : Exact). Less x (valued f (v .negative) (rounded-size f m v))) q (subst (λ (x : Exact). Less (worth f (joined f (w .negative) (rounded-size f m w))) x) p back))
+
+-- an exact zero keeps its sign and raises nothing
+pub rounded-zero : (f : Format) (m : Meaning) (v : Exact) → Proper f → Lawful m → 0 < v .den → v .num ≡ 0 → rounded f m v ≡ record { bits = joined f (v .negative) 0; flags = 0 }
+rounded-zero f m v proper law dp z =
+    let top : 1 * 1 ≤ f .special * f .hidden = mul-le 1 1 (f .special) (f .hidden) (proper .1) (proper .0) in
+    let some : 0 < infinity f = omega arith in
+    let e : value (f .hidden) 0 * v .den ≡ v .num * 2 ^ f .scale =
+    omega (arith, ap (λ (x : ℕ). x * v .den) (value-low (f .hidden) 0 (proper .0)), ap (λ (x : ℕ). x * 2 ^ f .scale) z) in
+    let c = chosen-exact m (v .negative) (f .hidden) (v .num * 2 ^ f .scale) (v .den) 0 law (proper .0) dp e in
+    outcome f (v .negative) (v .negative) (rounded-size f m v) 0 (rounded f m v .flags) 0 refl
+    (ap (settled m (v .negative) (infinity f)) c ∙ settled-finite m (v .negative) (infinity f) 0 some)
+    (raised-exact m (v .negative) (f .hidden) (infinity f) (v .num * 2 ^ f .scale) (v .den) 0 law (proper .0) dp e some)

@@ -13,7 +13,7 @@ use Rattle.rounding.specs.Rounding.{doublings, place, unit, whole, remainder, 
 use Rattle.rounding.specs.Format.{significand, shift, value}
 use Rattle.rounding.proofs.Values.{pow-next, value-at, value-lt, value-le, Laid, laid, laid-only}
 
-doubled : (n a c : ℕ) → a < c * 2 ^ n → (a < c * 2 ^ doublings n a c) × ((doublings n a c ≡ 0) ⊎ (c * 2 ^ doublings n a c ≤ 2 * a))
+pub doubled : (n a c : ℕ) → a < c * 2 ^ n → (a < c * 2 ^ doublings n a c) × ((doublings n a c ≡ 0) ⊎ (c * 2 ^ doublings n a c ≤ 2 * a))
 unfolding doublings
 doubled zero a c lt = (lt, inl refl)
 doubled (suc n) a c lt =

@@ -1,7 +1,7 @@
 // Binary32 encodings: a sign bit, an exponent field of 8 bits and a fraction of 23 bits, read by integer arithmetic alone.
 ghost use mathlib.Core.Path.{_≡_};
 ghost use Prim.Native.Nat.{_/_, _%_};
-ghost use Rattle.rounding.specs.Format.{binary32, negative, size, joined, is-nan, is-infinite, is-finite, is-zero, significand, shift};
+ghost use Rattle.rounding.specs.Format.{binary32, negative, size, joined, infinity, quiet, is-nan, is-infinite, is-finite, is-zero, significand, shift};
 
 // The weights of the hidden bit and of the sign bit, and the size of an infinity.
 pub const HIDDEN: u32 = 0x0080_0000;
@@ -26,6 +26,29 @@ impl Encoding {
         ensures { λ r. ⌜ r ≡ self .bits ⌝ }
     {
         self.bits
+    }
+
+    pub fn infinity(negative: bool) -> Encoding
+        ensures { λ r. ⌜ r .bits ≡ joined binary32 negative (infinity binary32) ⌝ }
+    {
+        Encoding {
+            bits: if negative { SIGN + INFINITY } else { INFINITY },
+        }
+    }
+
+    pub fn zero(negative: bool) -> Encoding
+        ensures { λ r. ⌜ r .bits ≡ joined binary32 negative 0 ⌝ }
+    {
+        Encoding {
+            bits: if negative { SIGN } else { 0 },
+        }
+    }
+
+    // The one NaN that is ever answered.
+    pub const fn quiet_nan() -> Encoding
+        ensures { λ r. ⌜ r .bits ≡ quiet binary32 ⌝ }
+    {
+        Encoding { bits: 0x7fc0_0000 }
     }
 
     pub fn is_negative(self) -> bool
