@@ -1,5 +1,6 @@
 // Quotients and squares of binary32 encodings over any engine and rule, with their flags.
 mod class;
+pub mod examples;
 mod operand;
 pub mod quotient;
 pub mod square;
