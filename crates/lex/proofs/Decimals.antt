@@ -7,8 +7,9 @@ use native.Mathlib.Nat.{one-le-pow, pow-le-pow-right, pow-suc, mod-eq-of-lt}
 use native.Mathlib.Numerals.{add-one}
 use native.Mathlib.Omega.{arith}
 use lib.ListN.{length, getD}
-use Rattle.lex.proofs.Places.{digits-push, length-digits, pow-next}
+use Rattle.lex.proofs.Places.{digits-push, length-digits, pow-next, solid-digits}
 use Rattle.lex.specs.Numbers.{Unpadded, digit, digits}
+use Rattle.lex.specs.Parts.{Solid}
 use Rattle.std.proofs.shelf.Decimals.{decimal-by-steps, decimal-digit, decimal-some, decimal-step, first-decimal, length-decimal-le}
 use Rattle.std.proofs.shelf.Lists.{getD-append-left, length-push}
 use Rattle.std.proofs.shelf.Tests.{cases-lt, cond-true, lt-ltb}
@@ -115,3 +116,8 @@ decimal-of w n short bare e h =
   where
     ten : 0 < 10
     ten = omega arith
+
+-- a decimal holds no space
+pub solid-decimal : (n : ℕ) → n < 2 ^ 64 → Solid (decimal n)
+solid-decimal n fits =
+    subst Solid (sym (decimal-is n fits .0)) (solid-digits 10 (length (decimal n)) n (omega arith))

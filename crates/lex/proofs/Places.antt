@@ -3,14 +3,17 @@ use mathlib.Core.Path.{_≡_, refl, sym, ap, _∙_}
 use mathlib.Core.List.{List, [], _∷_, _++_}
 use mathlib.Core.Logic.{_⊎_, inl, inr, ⊎-elim}
 use Prim.Native.Nat.{ℕ, zero, suc, _+_, _*_, _/_, _%_, _^_, _<_, _≤_}
-use native.Mathlib.Nat.{pow-le-pow-left, pow-le-pow-right, pow-suc, mul-le-mul-right, mod-lt}
+use native.Mathlib.Nat.{pow-le-pow-left, pow-le-pow-right, pow-suc, pow-zero, mul-le-mul-right, mod-lt, div-add-mod'}
 use native.Mathlib.Numerals.{add-one}
 use native.Mathlib.Omega.{arith}
 use lib.Arith.{digits-div, digits-mod}
-use lib.ListN.{length, getD, take, length-append}
+use lib.ListN.{length, getD, take}
 use Rattle.lex.specs.Numbers.{digit, digits}
-use Rattle.std.proofs.shelf.Lists.{getD-append-left, getD-at, length-push, take-more}
+use Rattle.lex.specs.Parts.{Solid}
+use Rattle.std.proofs.shelf.Bits.{div-below}
+use Rattle.std.proofs.shelf.Lists.{getD-append-left, getD-at, length-push, same-from-push, take-more}
 use Rattle.std.proofs.shelf.Tests.{cases-lt}
+use Rattle.std.proofs.shelf.Ways.{tells}
 
 -- one more digit at the end
 pub digits-push : (base k v d : ℕ) → d < base → digits base (k + 1) (v * base + d) ≡ digits base k v ++ (digit d ∷ [])
@@ -52,3 +55,26 @@ eight-digits base k b l =
 -- one more byte of a word read
 pub word-push : (base i v d : ℕ) (w : List ℕ) → i < length w → d < base → getD w i 0 ≡ digit d → take i w ≡ digits base i v → take (i + 1) w ≡ digits base (i + 1) (v * base + d)
 word-push base i v d w l b e t = rw (take-more w i 0 l, t, e) (sym (digits-push base i v d b))
+
+no-space : (d : ℕ) → digit d ≡ 32 → ⊥
+no-space d e = grind (arith, tells)
+
+-- digits hold no space
+pub solid-digits : (base k n : ℕ) → 0 < base → Solid (digits base k n)
+solid-digits base k n pos i l e =
+    let d = digit-at base k n i pos (omega (arith, length-digits base k n)) in no-space (d .0) (sym (d .2) ∙ e)
+
+digit-same : (d e : ℕ) → digit d ≡ digit e → d ≡ e
+digit-same d e h = grind (arith, tells)
+
+-- numbers of the same digits are equal
+pub digits-same : (base k m n : ℕ) → 0 < base → m < base ^ k → n < base ^ k → digits base k m ≡ digits base k n → m ≡ n
+unfolding digits
+digits-same base zero m n pos h g e = omega (arith, rw pow-zero at h, rw pow-zero at g)
+digits-same base (suc k) m n pos h g e =
+    let p = same-from-push (digits base k (m / base)) (digits base k (n / base)) (digit (m % base)) (digit (n % base)) e in
+    let q : m / base ≡ n / base =
+    digits-same base k (m / base) (n / base) pos (div-below m base (base ^ k) pos (rw pow-suc at h)) (div-below n base (base ^ k) pos (rw pow-suc at g)) (p .0)
+    in
+    let r : m % base ≡ n % base = digit-same (m % base) (n % base) (p .1) in
+    sym (div-add-mod' m base) ∙ cc (q, r) ∙ div-add-mod' n base
