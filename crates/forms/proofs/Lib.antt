@@ -1,0 +1,3 @@
+mod Once
+mod Repeats
+mod Texts

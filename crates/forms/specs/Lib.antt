@@ -1,0 +1,5 @@
+pub mod Calculations
+pub mod Commands
+pub mod Forms
+pub mod Polls
+pub mod Setups
