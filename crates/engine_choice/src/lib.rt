@@ -6,15 +6,19 @@ use engines::Engine;
 use engines::Log;
 use engines::digits::Digits;
 use engines::digits::DigitsEngine;
+use radix4::Radix4;
+use radix4::Radix4Engine;
 
 #[derive(Clone, Copy)]
 pub enum EngineName {
     Digits,
+    Radix4,
 }
 
 #[derive(Drop)]
 pub enum AnyEngine {
     Digits(Digits),
+    Radix4(Radix4),
 }
 
 impl AnyEngine {
@@ -24,6 +28,7 @@ impl AnyEngine {
     {
         match name {
             EngineName::Digits => AnyEngine::Digits(Digits::new()),
+            EngineName::Radix4 => AnyEngine::Radix4(Radix4::new()),
         }
     }
 }
@@ -34,12 +39,14 @@ pub impl Engine for AnyEngine as ChosenEngine {
     fn estimate(&mut self, divisor: u32, dividend: u64) -> u32 {
         match self {
             AnyEngine::Digits(engine) => engine.estimate(divisor, dividend),
+            AnyEngine::Radix4(engine) => engine.estimate(divisor, dividend),
         }
     }
 
     fn log(&self) -> Log {
         match self {
             AnyEngine::Digits(engine) => engine.log(),
+            AnyEngine::Radix4(engine) => engine.log(),
         }
     }
 }
