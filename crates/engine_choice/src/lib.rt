@@ -2,6 +2,8 @@
 ghost use mathlib.Core.Path.{_≡_};
 ghost use Rattle.engines.specs.Meaning.{none};
 ghost use Rattle.engine_choice.specs.Choice.{named, logOf};
+use cubic::Cubic;
+use cubic::CubicEngine;
 use engines::Engine;
 use engines::Log;
 use engines::digits::Digits;
@@ -13,12 +15,14 @@ use radix4::Radix4Engine;
 pub enum EngineName {
     Digits,
     Radix4,
+    Cubic,
 }
 
 #[derive(Drop)]
 pub enum AnyEngine {
     Digits(Digits),
     Radix4(Radix4),
+    Cubic(Cubic),
 }
 
 impl AnyEngine {
@@ -29,6 +33,7 @@ impl AnyEngine {
         match name {
             EngineName::Digits => AnyEngine::Digits(Digits::new()),
             EngineName::Radix4 => AnyEngine::Radix4(Radix4::new()),
+            EngineName::Cubic => AnyEngine::Cubic(Cubic::new()),
         }
     }
 }
@@ -40,6 +45,7 @@ pub impl Engine for AnyEngine as ChosenEngine {
         match self {
             AnyEngine::Digits(engine) => engine.estimate(divisor, dividend),
             AnyEngine::Radix4(engine) => engine.estimate(divisor, dividend),
+            AnyEngine::Cubic(engine) => engine.estimate(divisor, dividend),
         }
     }
 
@@ -47,6 +53,7 @@ pub impl Engine for AnyEngine as ChosenEngine {
         match self {
             AnyEngine::Digits(engine) => engine.log(),
             AnyEngine::Radix4(engine) => engine.log(),
+            AnyEngine::Cubic(engine) => engine.log(),
         }
     }
 }
