@@ -2,19 +2,27 @@
 ghost use mathlib.Core.Path.{_≡_};
 ghost use Rattle.engines.specs.Meaning.{none};
 ghost use Rattle.engine_choice.specs.Choice.{named, logOf};
+use cubic::Cubic;
+use cubic::CubicEngine;
 use engines::Engine;
 use engines::Log;
 use engines::digits::Digits;
 use engines::digits::DigitsEngine;
+use radix4::Radix4;
+use radix4::Radix4Engine;
 
 #[derive(Clone, Copy)]
 pub enum EngineName {
     Digits,
+    Radix4,
+    Cubic,
 }
 
 #[derive(Drop)]
 pub enum AnyEngine {
     Digits(Digits),
+    Radix4(Radix4),
+    Cubic(Cubic),
 }
 
 impl AnyEngine {
@@ -24,6 +32,8 @@ impl AnyEngine {
     {
         match name {
             EngineName::Digits => AnyEngine::Digits(Digits::new()),
+            EngineName::Radix4 => AnyEngine::Radix4(Radix4::new()),
+            EngineName::Cubic => AnyEngine::Cubic(Cubic::new()),
         }
     }
 }
@@ -34,12 +44,16 @@ pub impl Engine for AnyEngine as ChosenEngine {
     fn estimate(&mut self, divisor: u32, dividend: u64) -> u32 {
         match self {
             AnyEngine::Digits(engine) => engine.estimate(divisor, dividend),
+            AnyEngine::Radix4(engine) => engine.estimate(divisor, dividend),
+            AnyEngine::Cubic(engine) => engine.estimate(divisor, dividend),
         }
     }
 
     fn log(&self) -> Log {
         match self {
             AnyEngine::Digits(engine) => engine.log(),
+            AnyEngine::Radix4(engine) => engine.log(),
+            AnyEngine::Cubic(engine) => engine.log(),
         }
     }
 }

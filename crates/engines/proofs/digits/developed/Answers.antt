@@ -10,7 +10,7 @@ step-found-requires c κs = (
     omega (
       arith,
       room (c .loop-done .-done) (c .loop-done .found .bits) (c .args .wide) (c .loop-done .found .rest)
-          (c .args .dividend) (c .loop-done-test .taken) (c .loop-done .inv .0) (c .pre .1),
+          (c .args .dividend) (omega arith) (c .loop-done .inv .0) (c .pre .1),
     ),
   ),
 )
@@ -27,7 +27,7 @@ pub returns : need.returns
 returns c =
     let whole =
     complete (c .loop-done .-done) (c .loop-done .found .bits) (c .args .wide) (c .loop-done .found .rest)
-    (c .args .dividend) (c .loop-done-test .left) (c .loop-done .kept .-done-end) (c .loop-done .inv .0) in
+    (c .args .dividend) (omega arith) (omega arith) (c .loop-done .inv .0) in
     record {
       sum = whole;
       less = c .loop-done .inv .1;

@@ -1,0 +1,3 @@
+mod Newton
+mod Polynomials
+mod Ranges

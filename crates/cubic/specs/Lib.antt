@@ -1,0 +1,3 @@
+-- Reciprocals and how near they are.
+pub mod Polynomial
+pub mod Reciprocal

@@ -1,0 +1,2 @@
+-- What keeps the signed-digit recurrence going.
+pub mod Selection
