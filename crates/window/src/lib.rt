@@ -1,0 +1,8 @@
+// The window of standing replies: at most 288 finite encodings in the order of their coming, with their exact sums at hand.
+pub mod fault;
+mod order;
+pub mod peak;
+pub mod reading;
+mod ring;
+pub mod window;
+mod words;

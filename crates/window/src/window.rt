@@ -1,0 +1,15 @@
+// The window: the ring of standing replies with the words that add them up.
+ghost use Rattle.window.specs.Held.{Holds};
+use crate::ring::Ring;
+use crate::words::Words;
+
+mod changes;
+mod peaks;
+mod reads;
+
+#[derive(Drop)]
+pub struct Window {
+    ring: Ring,
+    words: Words,
+    ghost held: { Holds ring words },
+}
