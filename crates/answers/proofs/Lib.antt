@@ -1,1 +1,2 @@
+-- Lemmas of this crate's own.
 mod Chain

@@ -1,5 +1,4 @@
 // The shapes of the answers, each laid at the front of the buffer.
-ghost use lib.Chars.{codes};
 ghost use lib.ListN.{drop, length};
 ghost use mathlib.Core.List.{_++_};
 ghost use mathlib.Core.Path.{_≡_};

@@ -1,3 +1,4 @@
+-- Lemmas of this crate's own.
 mod Once
 mod Repeats
 mod Texts

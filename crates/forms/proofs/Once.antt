@@ -9,10 +9,10 @@ use lib.Dec.{eqb}
 use lib.ListN.{getD}
 use Rattle.forms.proofs.Repeats.{ending-ends, repeated-same}
 use Rattle.forms.proofs.Texts.{solid-engine, solid-hex}
-use Rattle.forms.specs.Calculations.{Encodings, Sized, calculation, divided, encoded, trial}
+use Rattle.forms.specs.Calculations.{Sized, calculation}
 use Rattle.forms.specs.Commands.{command}
-use Rattle.forms.specs.Forms.{Good, One-form, Ranged, text}
-use Rattle.forms.specs.Polls.{Ended, Polled, ending, poll, repeated}
+use Rattle.forms.specs.Forms.{One-form, Ranged, text}
+use Rattle.forms.specs.Polls.{Ended, Polled, ending, poll}
 use Rattle.forms.specs.Setups.{Addressed, engine, fitting, rule, setup}
 use Rattle.forms.specs.declared.Calculation.{Calculation}
 use Rattle.forms.specs.declared.Calculation.the-variants.{Divide, Square, Mean, MeanSquare}
@@ -32,7 +32,6 @@ use Rattle.lex.proofs.Cuts.{group-same, pair-same}
 use Rattle.lex.proofs.Decimals.{solid-decimal}
 use Rattle.lex.proofs.Places.{digits-same}
 use Rattle.lex.specs.Numbers.{hex}
-use Rattle.lex.specs.Parts.{group, pair}
 use Rattle.std.proofs.shelf.Decimals.{same-from-decimal}
 use Rattle.std.specs.Written.{decimal}
 

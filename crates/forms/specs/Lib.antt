@@ -1,3 +1,4 @@
+-- The definitions that the contracts cite.
 pub mod Calculations
 pub mod Commands
 pub mod Forms

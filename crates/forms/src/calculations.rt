@@ -1,6 +1,4 @@
 // Reading what is to be computed.
-ghost use lib.Chars.{codes};
-ghost use mathlib.Core.Path.{_≡_};
 ghost use Prim.Native.Nat.{_<_, _^_};
 ghost use Rattle.forms.specs.Calculations.{calculation, divided, encoded, trial, Encodings, Sized};
 ghost use Rattle.lex.specs.Reads.{Reads};

@@ -1,5 +1,4 @@
 // Reading the forms of a single word.
-ghost use mathlib.Core.Path.{_≡_};
 ghost use Rattle.forms.specs.Commands.{command};
 ghost use Rattle.lex.specs.Reads.{Reads};
 use crate::Command;

@@ -1,5 +1,4 @@
 // Reading the line that sets the meter up.
-ghost use mathlib.Core.Path.{_≡_};
 ghost use Rattle.forms.specs.Setups.{fitting, engine, rule, setup, Addressed};
 ghost use Rattle.lex.specs.Reads.{Reads};
 use crate::Setup;

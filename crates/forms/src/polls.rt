@@ -1,6 +1,5 @@
 // Reading a poll: how often it is repeated, and how it ends.
 ghost use lib.ListN.{length};
-ghost use mathlib.Core.Path.{_≡_};
 ghost use Prim.Native.Nat.{_≤_};
 ghost use Rattle.forms.specs.Polls.{ending, poll, Ended, Polled};
 ghost use Rattle.lex.specs.Reads.{Reads};

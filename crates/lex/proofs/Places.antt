@@ -1,7 +1,7 @@
 -- Lemmas on the digits of a number.
 use mathlib.Core.Path.{_≡_, refl, sym, ap, _∙_}
 use mathlib.Core.List.{List, [], _∷_, _++_}
-use mathlib.Core.Logic.{_⊎_, inl, inr, ⊎-elim}
+use mathlib.Core.Logic.{_⊎_, ⊎-elim}
 use Prim.Native.Nat.{ℕ, zero, suc, _+_, _*_, _/_, _%_, _^_, _<_, _≤_}
 use native.Mathlib.Nat.{pow-le-pow-left, pow-le-pow-right, pow-suc, pow-zero, mul-le-mul-right, mod-lt, div-add-mod'}
 use native.Mathlib.Numerals.{add-one}

@@ -1,3 +1,4 @@
+-- The definitions that the contracts cite.
 pub mod Reads
 pub mod Parts
 pub mod Numbers

@@ -1,5 +1,4 @@
 // The parts of a line: what stands in a group, and what stands before and after its first space.
-ghost use lib.ListN.{length};
 ghost use mathlib.Core.Path.{_≡_};
 ghost use Rattle.lex.specs.Reads.{Reads, held, held-both};
 ghost use Rattle.lex.specs.Parts.{group, pair, Apart};

@@ -1,5 +1,5 @@
 -- No line of two encodings is refused.
-use mathlib.Core.Path.{_≡_, sym, _∙_}
+use mathlib.Core.Path.{sym, _∙_}
 use Prim.Native.Nat.{ℕ, _^_, _<_}
 use lib.Chars.{codes}
 use Rattle.forms.proofs.Texts.{solid-hex}

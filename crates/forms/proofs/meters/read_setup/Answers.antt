@@ -1,12 +1,10 @@
 -- No line that sets a meter up is refused.
-use mathlib.Core.Path.{_≡_, sym, _∙_}
+use mathlib.Core.Path.{sym, _∙_}
 use Prim.Native.Nat.{ℕ, _<_}
 use native.Mathlib.Omega.{arith}
 use lib.Chars.{codes}
-use lib.ListN.{length}
 use Rattle.forms.proofs.meters.read_setup.Needs as need
-use Rattle.forms.specs.Setups.{fitting, setup}
-use Rattle.forms.specs.declared.Setup.{Setup}
+use Rattle.forms.specs.Setups.{fitting}
 use Rattle.forms.specs.declared.names.EngineName.{EngineName}
 use Rattle.forms.specs.declared.names.RuleName.{RuleName}
 use Rattle.lex.proofs.Cuts.{group-same, no-first, no-second, no-split}

@@ -1,5 +1,5 @@
 -- The loop takes one repeat off at each turn; what it leaves is no repeat.
-use mathlib.Core.Path.{_≡_, refl, sym, ap, _∙_}
+use mathlib.Core.Path.{refl, sym, ap, _∙_}
 use native.Mathlib.Omega.{arith}
 use lib.Chars.{codes}
 use Rattle.forms.proofs.Repeats.{ending-ends, poll-longer, repeated-more, repeated-same, shorter}

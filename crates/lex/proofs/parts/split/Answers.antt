@@ -1,8 +1,6 @@
 -- The text is cut at its first space, or has none.
 use native.Mathlib.Nat.{sub-zero}
 use native.Mathlib.Omega.{arith}
-use Prim.Native.Nat.{_<_}
-use lib.ListN.{length}
 use Rattle.lex.proofs.Cuts.{solid-take, cut-at, no-pair}
 use Rattle.lex.proofs.parts.split.Needs as need
 use Rattle.std.proofs.shelf.Lists.{take-rest}
