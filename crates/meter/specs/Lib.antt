@@ -1,0 +1,4 @@
+pub mod Faults
+pub mod Attempts
+pub mod Model
+pub mod Meters
