@@ -18,7 +18,9 @@ impl Address {
         if number < 1 || number > 247 {
             return Err(MeterFault::Address);
         }
-        Ok(Address { number: number as u8 })
+        Ok(Address {
+            number: number as u8,
+        })
     }
 
     pub fn number(self) -> u8

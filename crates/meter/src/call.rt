@@ -38,8 +38,13 @@ pub enum Call {
     Lapse(NamedPoll),
     Retire,
     Retract,
-    Quotient { dividend: Encoding, divisor: Encoding },
-    Square { operand: Encoding },
+    Quotient {
+        dividend: Encoding,
+        divisor: Encoding,
+    },
+    Square {
+        operand: Encoding,
+    },
     Mean,
     MeanSquare,
 }

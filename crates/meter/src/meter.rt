@@ -2,7 +2,9 @@
 use crate::address::Address;
 use window::window::Window;
 
+mod computing;
 mod polls;
+mod replies;
 
 pub struct Meter<E, R> {
     address: Address,

@@ -1,5 +1,6 @@
 // A pending poll: a token that only a meter makes, and that is let go only by ending it.
 ghost use mathlib.Core.Path.{_≡_};
+use crate::fault::MeterFault;
 
 // One question to an inverter. It has to end in a reply or a lapse: nobody can show what its `drop` requires.
 pub struct PendingPoll {
@@ -11,7 +12,10 @@ impl Drop for PendingPoll {
     fn drop(self)
         requires { ⌜ ⊥ ⌝ }
     {
-        let PendingPoll { address: _, attempt: _ } = self;
+        let PendingPoll {
+            address: _,
+            attempt: _,
+        } = self;
     }
 }
 
@@ -24,7 +28,10 @@ impl PendingPoll {
 
     // The token's end.
     pub(crate) fn spend(self) {
-        let PendingPoll { address: _, attempt: _ } = self;
+        let PendingPoll {
+            address: _,
+            attempt: _,
+        } = self;
     }
 
     pub fn address(&self) -> u8
@@ -38,4 +45,10 @@ impl PendingPoll {
     {
         self.attempt
     }
+}
+
+// A poll that was not taken, with the reason.
+pub struct Refused {
+    pub poll: PendingPoll,
+    pub fault: MeterFault,
 }

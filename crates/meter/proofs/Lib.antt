@@ -1,0 +1,2 @@
+-- Lemmas of the meter.
+pub mod Standing
