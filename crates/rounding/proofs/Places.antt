@@ -35,7 +35,7 @@ doubled (suc n) a c lt =
     ))
     (cases-bool (ltb a c))
 
-below-pow : (a : ℕ) → a < 2 ^ a
+pub below-pow : (a : ℕ) → a < 2 ^ a
 below-pow zero = omega arith
 below-pow (suc a) = omega (arith, below-pow a, rw add-one at (pow-next a))
 

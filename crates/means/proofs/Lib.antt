@@ -1,0 +1,2 @@
+-- Lemmas of means.
+pub mod Asking

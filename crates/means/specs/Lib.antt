@@ -1,0 +1,2 @@
+-- What a mean is, and what it asks.
+pub mod Defined

@@ -1,0 +1,1 @@
+// Means and mean squares of a window, over any engine and rule, rounded once.
