@@ -1,2 +1,3 @@
 -- Lemmas of means.
 pub mod Asking
+pub mod Nearness

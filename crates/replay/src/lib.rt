@@ -1,0 +1,2 @@
+// Replay: lists of calls performed on two fresh meters, and the promise over whole runs.
+pub mod step;
