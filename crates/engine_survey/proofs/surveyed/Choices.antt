@@ -1,0 +1,5 @@
+use mathlib.Core.Path.{_≡_}
+use Rattle.engine_survey.proofs.surveyed.Given as given
+
+abbrev pub Inv-loop-done : given.InvT-loop-done
+Inv-loop-done l = l .tally .quotients ≡ 0
