@@ -33,12 +33,12 @@ module _ (S B D N rest q : ℕ) (Bp : 0 < B) (Dp : 0 < D) (parts : N * B + rest 
       let m : ℕ = N % D in
       ⊎-elim
       (λ (z : N % D ≡ 0).
-          let e : N % D * B ≡ 0 * B = ap (λ (k : ℕ). k * B) z in
-          let f : N % D * B + rest ≡ rest = omega arith in
-          simp (eq-eqb (q * D) N (omega (arith, digits)), f))
+      let e : N % D * B ≡ 0 * B = ap (λ (k : ℕ). k * B) z in
+      let f : N % D * B + rest ≡ rest = omega arith in
+      simp (eq-eqb (q * D) N (omega (arith, digits)), f))
       (λ (nz : N % D ≡ 0 → ⊥).
-          let some : 1 * 1 ≤ N % D * B = mul-le 1 1 (N % D) B (omega arith) Bp in
-          simp (ne-eqb (q * D) N (λ e. omega (arith, digits)), lt-ltb 0 (N % D * B + rest) (omega arith)))
+      let some : 1 * 1 ≤ N % D * B = mul-le 1 1 (N % D) B (omega arith) Bp in
+      simp (ne-eqb (q * D) N (λ e. omega (arith, digits)), lt-ltb 0 (N % D * B + rest) (omega arith)))
       (cases-eq (N % D) 0)
 
 pub mean-near : (S B D N rest q a b x Z : ℕ) (cut : Bool) → 0 < B → 0 < D → 0 < Z → N * B + rest ≡ S * D → rest < B → q ≡ N / D → b * 2 ^ x ≡ B * Z → a * 2 ^ 256 ≡ S * Z → cut ≡ (not (eqb (q * D) N) || ltb 0 rest) → Near q x cut a b

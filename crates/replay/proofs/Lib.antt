@@ -1,0 +1,3 @@
+-- Lemmas of the replay.
+pub mod Tellings
+pub mod Promises
