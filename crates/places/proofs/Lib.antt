@@ -1,0 +1,5 @@
+pub mod Binary
+pub mod Spreading
+mod Lacking
+mod Reaching
+pub mod Asked
