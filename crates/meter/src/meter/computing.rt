@@ -9,11 +9,29 @@ use arithmetic::quotient::quotient;
 use arithmetic::square::square;
 use arithmetic::standing::StandingFlags;
 use engines::Engine;
+use engines::Log;
 use rounding::encoding::Encoding;
 use rounding::round::Answer;
 use rounding::rule::Rule;
 
+impl<E: Engine, R: Drop> Meter<E, R> {
+    // The meter's end: its engine comes back.
+    pub fn into_engine(self) -> E
+        ensures { λ r. ⌜ r ≡ self .engine ⌝ }
+    {
+        let Meter { address: _, pending: _, engine, rule: _, window: _ } = self;
+        engine
+    }
+}
+
 impl<E: Engine, R: Rule> Meter<E, R> {
+    // The engine's meaning.
+    pub fn log(&self) -> Log
+        ensures { λ r. ⌜ r ≡ logged (now (self .entry) .engine) ⌝ }
+    {
+        self.engine.log()
+    }
+
     pub fn quotient(
         &mut self,
         flags: &mut StandingFlags,
