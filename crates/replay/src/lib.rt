@@ -1,3 +1,5 @@
 // Replay: lists of calls performed on two fresh meters, and the promise over whole runs.
+mod perform;
 pub mod step;
+mod stepping;
 mod tokens;

@@ -31,7 +31,12 @@ fn repeated(source: &mut Meter<Digits, Even>, poll: PendingPoll) -> PendingPoll
 {
     match source.repeat(poll) {
         Ok(next) => next,
-        Err(Refused { poll: back, fault: _ }) => back,
+        Err(
+            Refused {
+                poll: back,
+                fault: _,
+            },
+        ) => back,
     }
 }
 
@@ -66,7 +71,10 @@ pub fn token_of(named: NamedPoll) -> PendingPoll
 pub fn seen_and_ended(address: Address, poll: PendingPoll) -> SeenPoll
     ensures { λ r. ⌜ (r .address ≡ poll .address) × (r .attempt ≡ poll .attempt) ⌝ }
 {
-    let seen = SeenPoll { address: poll.address(), attempt: poll.attempt() };
+    let seen = SeenPoll {
+        address: poll.address(),
+        attempt: poll.attempt(),
+    };
     let mut other = bystander(address);
     let _ = other.lapse(poll);
     seen

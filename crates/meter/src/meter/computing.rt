@@ -19,7 +19,13 @@ impl<E: Engine, R: Drop> Meter<E, R> {
     pub fn into_engine(self) -> E
         ensures { λ r. ⌜ r ≡ self .engine ⌝ }
     {
-        let Meter { address: _, pending: _, engine, rule: _, window: _ } = self;
+        let Meter {
+            address: _,
+            pending: _,
+            engine,
+            rule: _,
+            window: _,
+        } = self;
         engine
     }
 }
