@@ -1,6 +1,5 @@
 // Quotients and squares of binary32 encodings over any engine and rule, with their flags.
 mod class;
-pub mod examples;
 mod operand;
 pub mod quotient;
 pub mod square;

@@ -2,6 +2,9 @@
 ghost use mathlib.Core.Path.{_≡_};
 ghost use Prim.Native.Nat.{_<_, _≤_};
 ghost use Rattle.std.specs.Results.{Cases};
+ghost use Rattle.std.specs.declared.option.Option.the-variants.{Some, None};
+ghost use Rattle.meter.specs.Faults.{number as fault-number};
+ghost use Rattle.meter.specs.Addresses.{refuses-address};
 use crate::fault::MeterFault;
 
 #[derive(Clone, Copy)]
@@ -13,7 +16,7 @@ pub struct Address {
 impl Address {
     // From outside comes any number, so that 248 and 999 are refused and never cut short.
     pub fn new(number: u16) -> Result<Address, MeterFault>
-        ensures { λ r. ⌜ Cases r (λ a. a .number ≡ number) (λ fault. ((1 ≤ number → number ≤ 247 → ⊥) × (fault ≡ MeterFault.Address))) ⌝ }
+        ensures { λ r. ⌜ Cases r (λ a. (refuses-address number ≡ None) × (a .number ≡ number)) (λ fault. (refuses-address number ≡ Some (fault-number fault)) × (fault ≡ MeterFault.Address)) ⌝ }
     {
         if number < 1 || number > 247 {
             return Err(MeterFault::Address);
