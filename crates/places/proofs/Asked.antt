@@ -1,13 +1,13 @@
 -- The pair that a quotient asks for: how it is found, that it is the only one, and what an answer from it has to know.
 use Prim.Native.Nat.{ℕ, zero, suc, _+_, _-_, _*_, _/_, _%_, _^_, _<_, _≤_}
-use mathlib.Core.Path.{_≡_, refl, ap, sym, subst, _∙_}
+use mathlib.Core.Path.{_≡_, ap, sym, subst, _∙_}
 use mathlib.Core.Logic.{⊎-elim}
-use mathlib.Core.Bool.{Bool, true, false, not, _||_}
+use mathlib.Core.Bool.{Bool, false, not, _||_}
 use native.Mathlib.Omega.{arith}
 use native.Mathlib.Nat.{mul-le-mul-left, mul-le-mul-right, mul-lt-mul-of-pos-right, le-of-mul-le-mul-right, lt-of-mul-lt-mul-right, pow-le-pow-right}
 use lib.Dec.{ltb, eqb}
-use Rattle.std.proofs.shelf.Tests.{cases-lt, cases-order, lt-ltb, le-ltb, eq-eqb, ne-eqb}
-use Rattle.std.proofs.shelf.Bits.{pow-pos, pow-add, div-mul-add, div-add-mod', mod-below, mul-le}
+use Rattle.std.proofs.shelf.Tests.{cases-lt, cases-order, lt-ltb, ne-eqb}
+use Rattle.std.proofs.shelf.Bits.{pow-pos, pow-add, div-mul-add, div-add-mod', div-below, le-div, mod-below, mul-le}
 use Rattle.places.specs.Asking.{Asks, Scales}
 use Rattle.places.proofs.Binary.{pow-next}
 
@@ -127,15 +127,23 @@ asks-only s n d m d′ m′ a b =
 
 -- ---- what an answer has to know
 
--- another bias, and units of 2^-u: the scale moves with them
-pub scales-moved : (a n d m e f j u : ℕ) (more : Bool) → u + f ≡ e + j → Scales 64 a n d m e more → Scales (64 + j) a (n * 2 ^ u) d m f more
-scales-moved a n d m e f j u more h s =
-    let unit : n * 2 ^ u * 2 ^ f ≡ n * 2 ^ e * 2 ^ j = omega (arith, ap (λ (z : ℕ). n * z) (sym (pow-add 2 u f) ∙ ap (λ (k : ℕ). 2 ^ k) h ∙ pow-add 2 e j)) in
+-- The dividend lies in the engine's range.
+pub asks-band : (s n d m : ℕ) → Asks s n d m → (2 ^ 24 * d ≤ m) × (m < 2 ^ 25 * d)
+asks-band s n d m a =
+    let some = pow-pos (a .lower) in
+    (rw (a .whole) (le-div (2 ^ 24 * d) (s * 2 ^ a .raise) (2 ^ a .lower) some (a .band .0)), rw (a .whole) (div-below (s * 2 ^ a .raise) (2 ^ a .lower) (2 ^ 25 * d) some (a .band .1)))
+
+-- another bias, and other units of both numbers: the scale moves with them
+pub scales-moved : (c a n d m e f j u w : ℕ) (more : Bool) → u + f ≡ e + (j + w) → Scales c a n d m e more → Scales (c + j) (a * 2 ^ w) (n * 2 ^ u) d m f more
+scales-moved c a n d m e f j u w more h s =
+    let up : 2 ^ u * 2 ^ f ≡ 2 ^ e * 2 ^ (j + w) = sym (pow-add 2 u f) ∙ ap (λ (k : ℕ). 2 ^ k) h ∙ pow-add 2 e (j + w) in
+    let unit : n * 2 ^ u * 2 ^ f ≡ n * 2 ^ e * 2 ^ (j + w) = omega (arith, ap (λ (z : ℕ). n * z) up) in
+    let bias : a * 2 ^ w * 2 ^ (c + j) * d ≡ a * 2 ^ c * d * 2 ^ (j + w) = ap (λ (z : ℕ). a * 2 ^ w * z * d) (pow-add 2 c j) ∙ omega (arith, ap (λ (z : ℕ). a * 2 ^ c * d * z) (pow-add 2 j w)) in
     record {
-      rest = s .rest * 2 ^ j;
-      parts = omega (arith, ap (λ (z : ℕ). m * z) unit, ap (λ (z : ℕ). z * 2 ^ j) (s .parts), ap (λ (z : ℕ). a * z * d) (pow-add 2 64 j));
-      below = rw unit (mul-lt-mul-of-pos-right (s .below) (pow-pos j));
-      told = s .told ∙ sym (positive-by (s .rest) (2 ^ j) (pow-pos j));
+      rest = s .rest * 2 ^ (j + w);
+      parts = omega (arith, bias, ap (λ (z : ℕ). m * z) unit, ap (λ (z : ℕ). z * 2 ^ (j + w)) (s .parts));
+      below = rw unit (mul-lt-mul-of-pos-right (s .below) (pow-pos (j + w)));
+      told = s .told ∙ sym (positive-by (s .rest) (2 ^ (j + w)) (pow-pos (j + w)));
     }
 
 told : (r unit t d rest : ℕ) (more : Bool) → 0 < unit → 0 < d → t * d ≡ r * unit + rest → more ≡ ltb 0 rest → (not (eqb r 0) || more) ≡ ltb 0 t

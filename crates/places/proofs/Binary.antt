@@ -1,7 +1,6 @@
 -- Binary digits: one more, a write, and the parts below and above a place.
 use Prim.Native.Nat.{ℕ, zero, suc, _+_, _*_, _^_, _<_, _≤_}
 use mathlib.Core.Path.{_≡_, refl, ap, sym, subst, _∙_}
-use mathlib.Core.Logic.{⊎-elim}
 use mathlib.Core.Bool.{Bool, true, false}
 use mathlib.Core.List.{List, [], _∷_, _++_}
 use native.Mathlib.Omega.{arith}
@@ -9,7 +8,6 @@ use native.Mathlib.Nat.{pow-succ', pow-le-pow-right}
 use native.Mathlib.Numerals.{add-one}
 use lib.ListN.{length, getD, set, take, drop, replicate}
 use Rattle.std.proofs.shelf.Lists.{take-more, take-more-set, take-all, length-take, length-take-le, length-set}
-use Rattle.std.proofs.shelf.Tests.{cases-lt}
 use Rattle.places.specs.Digits.{bit, bits-value}
 
 pub pow-next : (k : ℕ) → 2 ^ (k + 1) ≡ 2 * 2 ^ k

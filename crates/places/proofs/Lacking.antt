@@ -1,13 +1,13 @@
 -- What a number lacks of a power of two, digit by digit.
 use Prim.Native.Nat.{ℕ, zero, suc, _+_, _-_, _*_, _^_, _<_, _≤_}
-use mathlib.Core.Path.{_≡_, refl, ap, sym, subst, _∙_}
+use mathlib.Core.Path.{_≡_, refl, ap, sym, _∙_}
 use mathlib.Core.Logic.{_≢_}
 use mathlib.Core.Bool.{Bool, true, false, not, Bool·beq}
-use mathlib.Core.List.{List, [], _∷_}
+use mathlib.Core.List.{List}
 use native.Mathlib.Omega.{arith}
 use lib.Dec.{ltb}
 use lib.ListN.{length, getD, set, take, drop, replicate}
-use Rattle.std.proofs.shelf.Lists.{length-set, length-take-le, getD-set-other, drop-more}
+use Rattle.std.proofs.shelf.Lists.{length-set, getD-set-other}
 use Rattle.std.proofs.shelf.Tests.{lt-ltb, le-ltb}
 use Rattle.places.specs.Digits.{bit, bits-value}
 use Rattle.places.proofs.Binary.{pow-next, value-none, value-more, value-write, value-split, value-below-at}

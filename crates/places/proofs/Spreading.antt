@@ -1,14 +1,14 @@
 -- Words at rising places: bounds, words past the last, sums of two.
 use Prim.Native.Nat.{ℕ, zero, suc, _+_, _-_, _*_, _^_, _<_, _≤_}
-use mathlib.Core.Path.{_≡_, refl, ap, sym, subst, _∙_}
+use mathlib.Core.Path.{_≡_, refl, ap}
 use mathlib.Core.Logic.{⊎-elim}
 use native.Mathlib.Omega.{arith}
 use native.Mathlib.Nat.{mul-le-mul-left, mul-le-mul-right, pow-le-pow-right}
-use Rattle.std.proofs.shelf.Bits.{pow-pos, mul-le}
-use Rattle.std.proofs.shelf.Tests.{cases-lt}
+use Rattle.std.proofs.shelf.Tests.{cases-eq, le-ltb, eq-eqb, ne-eqb}
+use mathlib.Core.Bool.{false, cond}
 use mathlib.Core.List.{List}
+use lib.Dec.{eqb}
 use lib.IntN.{ℤ}
-use Rattle.std.proofs.shelf.Tests.{le-ltb}
 use Rattle.places.specs.Spread.{spread, lifted}
 use Rattle.places.proofs.Binary.{pow-next}
 
@@ -68,3 +68,37 @@ spread-ones (suc m) =
 -- raised words
 pub lifted-past : (ws : List ℤ) (k : ℕ) → 255 ≤ k → lifted ws k ≡ 0
 lifted-past ws k past = rw (le-ltb k 255 past) refl
+
+-- ---- sums of spreads
+module _ (step : ℕ) where
+  pub spread-same : (v w : ℕ → ℕ) (n : ℕ) → ((k : ℕ) → k < n → v k ≡ w k) → spread step v n ≡ spread step w n
+  unfolding spread
+  spread-same v w zero e = refl
+  spread-same v w (suc n) e =
+      omega (arith, spread-same v w n (λ k lt. e k (omega arith)), ap (λ (x : ℕ). x * 2 ^ (step * (n - 1))) (e n (omega arith)))
+
+  pub spread-sum : (v w : ℕ → ℕ) (n : ℕ) → spread step (λ k. v k + w k) n ≡ spread step v n + spread step w n
+  unfolding spread
+  spread-sum v w zero = refl
+  spread-sum v w (suc n) = omega (arith, spread-sum v w n)
+
+  pub spread-none : (w : ℕ → ℕ) (n : ℕ) → ((k : ℕ) → k < n → w k ≡ 0) → spread step w n ≡ 0
+  unfolding spread
+  spread-none w zero e = refl
+  spread-none w (suc n) e =
+      omega (arith, spread-none w n (λ k lt. e k (omega arith)), ap (λ (x : ℕ). x * 2 ^ (step * (n - 1))) (e n (omega arith)))
+
+  -- one word, and nothing at the others
+  pub spread-single : (f v n : ℕ) → f < n → spread step (λ k. cond (eqb f k) v 0) n ≡ v * 2 ^ (step * (f - 1))
+  unfolding spread
+  spread-single f v zero lt = absurd (omega arith)
+  spread-single f v (suc n) lt =
+      ⊎-elim
+      (λ (e : f ≡ n).
+      let one : cond (eqb f n) v 0 ≡ v = rw (eq-eqb f n e) refl in
+      let none : spread step (λ k. cond (eqb f k) v 0) n ≡ 0 = spread-none (λ k. cond (eqb f k) v 0) n (λ k below. let ne : eqb f k ≡ false = ne-eqb f k (λ z. omega arith) in rw ne refl) in
+      omega (arith, none, ap (λ (x : ℕ). x * 2 ^ (step * (n - 1))) one, ap (λ (i : ℕ). v * 2 ^ (step * (i - 1))) e))
+      (λ (ne : f ≡ n → ⊥).
+      let zip : cond (eqb f n) v 0 ≡ 0 = rw (ne-eqb f n ne) refl in
+      omega (arith, spread-single f v n (omega arith), ap (λ (x : ℕ). x * 2 ^ (step * (n - 1))) zip))
+      (cases-eq f n)

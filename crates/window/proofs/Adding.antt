@@ -1,21 +1,20 @@
 -- Words and the replies that they add up: bounds, and one reply more or less.
-use Prim.Native.Nat.{ℕ, zero, suc, _+_, _*_, _^_, _<_, _≤_}
-use mathlib.Core.Path.{_≡_, refl, ap, sym, subst, _∙_}
+use Prim.Native.Nat.{ℕ, zero, suc, _^_, _<_, _≤_}
+use mathlib.Core.Path.{_≡_, refl, sym}
 use mathlib.Core.Logic.{_≢_, ⊎-elim}
 use mathlib.Core.Bool.{Bool, true, false, cond}
-use mathlib.Core.List.{List, [], _∷_, _++_}
+use mathlib.Core.List.{List}
 use native.Mathlib.Omega.{arith}
-use lib.Dec.{eqb}
-use lib.IntN.{ℤ, pos, negℤ, _+ℤ_}
+use lib.IntN.{pos, negℤ}
 use lib.ListN.{length, getD, set, replicate}
 use borrow.Author.Differences.{up, down, ints}
 use Rattle.std.proofs.shelf.Ways.{tells}
-use Rattle.std.proofs.shelf.Tests.{cases-eq, cond-both, ne-eqb, eq-eqb}
+use Rattle.std.proofs.shelf.Tests.{cases-eq, ne-eqb, eq-eqb}
 use Rattle.std.proofs.shelf.Bits.{mul-le}
 use Rattle.std.proofs.shelf.Lists.{getD-set-same, getD-set-other}
 use Rattle.rounding.specs.declared.encoding.Encoding.{Encoding}
 use Rattle.rounding.specs.Format.{binary32, negative, size, significand}
-use Rattle.window.specs.Replies.{field-of, signed-of, square-of, sumZ}
+use Rattle.window.specs.Replies.{field-of, signed-of, square-of}
 use Rattle.window.specs.Words.{signed-at, square-at}
 
 pub significand-small : (n : ℕ) → significand 8388608 n < 16777216

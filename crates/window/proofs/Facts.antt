@@ -1,13 +1,13 @@
 -- What users of a window may cite: bounds on what stands, and that a peak is the only one.
-use Prim.Native.Nat.{ℕ, zero, suc, _+_, _-_, _<_, _≤_}
-use mathlib.Core.Path.{_≡_, refl, ap, sym, subst, _∙_}
+use Prim.Native.Nat.{ℕ, zero, suc, _-_, _<_, _≤_}
+use mathlib.Core.Path.{_≡_, ap, _∙_}
 use mathlib.Core.Logic.{⊎-elim}
 use mathlib.Core.List.{List, [], _∷_}
 use native.Mathlib.Omega.{arith}
 use lib.ListN.{length, getD}
-use borrow.Author.Differences.{up, down, ints, le-out, lt-out}
+use borrow.Author.Differences.{le-out, lt-out}
 use Rattle.std.specs.Finite.{nth}
-use Rattle.std.specs.declared.option.Option.the-variants.{Some, None}
+use Rattle.std.specs.declared.option.Option.the-variants.{Some}
 use Rattle.std.proofs.shelf.Tests.{cases-order}
 use Rattle.rounding.specs.declared.encoding.Encoding.{Encoding}
 use Rattle.window.specs.declared.peak.Peak.{Peak}

@@ -1,17 +1,15 @@
 -- The greatest reply so far, as a walk over the replies keeps it.
 use Prim.Native.Nat.{ℕ, _+_, _-_, _<_, _≤_}
-use mathlib.Core.Path.{_≡_, refl, sym, subst, _∙_}
+use mathlib.Core.Path.{_≡_, sym, subst, _∙_}
 use mathlib.Core.Bool.{true, false}
-use mathlib.Core.Logic.{⊎-elim}
 use mathlib.Core.List.{List}
 use native.Mathlib.Omega.{arith}
 use lib.ListN.{length, getD}
 use lib.Signed.{ltZ, _<ℤ_, _≤ℤ_}
 use borrow.Author.Count.{below-more}
-use borrow.Author.Differences.{up, down, ints, at-most-in, below-in, lt-true, lt-false, le-out, lt-out}
+use borrow.Author.Differences.{ints, at-most-in, below-in, lt-true, lt-false, le-out, lt-out}
 use Rattle.std.proofs.shelf.Maps.{nth-getD}
 use Rattle.rounding.specs.declared.encoding.Encoding.{Encoding}
-use Rattle.window.specs.declared.peak.Peak.{Peak}
 use Rattle.window.specs.Replies.{worth-of}
 use Rattle.window.specs.Ring.{blank}
 use Rattle.window.specs.Peak.{Peaks}

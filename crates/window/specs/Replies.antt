@@ -1,9 +1,9 @@
 -- Replies as numbers, and what a list of them adds up to, exactly.
 use Prim.Native.Nat.{ℕ, _+_, _-_, _*_, _/_}
 use mathlib.Core.Path.{_≡_}
-use mathlib.Core.Bool.{true, cond}
+use mathlib.Core.Bool.{Bool, true, false, cond}
 use mathlib.Core.List.{List, [], _∷_}
-use lib.IntN.{ℤ, pos, negℤ, _+ℤ_}
+use lib.IntN.{ℤ, pos, negsuc, negℤ, _+ℤ_}
 use Rattle.std.specs.shelf.Lists.{sumBy}
 use Rattle.rounding.specs.declared.encoding.Encoding.{Encoding}
 use Rattle.rounding.specs.Format.{binary32, negative, size, is-finite, significand, value}
@@ -48,3 +48,7 @@ total xs = sumZ worth-of xs
 
 abbrev pub total-squares : List Encoding → ℕ
 total-squares xs = sumBy worth-squared xs
+
+abbrev pub below-zero : ℤ → Bool
+below-zero (pos n) = false
+below-zero (negsuc n) = true

@@ -3,6 +3,7 @@ ghost use Rattle.window.specs.Held.{Holds};
 use crate::ring::Ring;
 use crate::words::Words;
 
+mod asks;
 mod changes;
 mod peaks;
 mod reads;

@@ -1,10 +1,17 @@
 // The sums of the standing replies by exponent field: one machine word for the signed significands, one for their squares.
 ghost use mathlib.Core.Path.{_≡_};
 ghost use mathlib.Core.List.{[]};
-ghost use Prim.Native.Nat.{_≤_};
+ghost use Prim.Native.Nat.{_+_, _-_, _≤_};
+ghost use lib.Dec.{ltb};
 ghost use lib.ListN.{getD};
+ghost use Rattle.places.specs.Digits.{bits-value};
+ghost use Rattle.places.specs.Spread.{spread, ups, downs};
 ghost use Rattle.window.specs.Replies.{field-of, square-of, signed-of, Finite};
 ghost use Rattle.window.specs.Words.{Joins, Tells, Roomy};
+use places::bits::Bits;
+use places::bits::Signed;
+use places::sums::signed_sum;
+use places::sums::sum_of_squares;
 use rounding::encoding::Encoding;
 
 #[derive(Clone, Copy)]
@@ -64,5 +71,20 @@ impl Words {
         sums[field] -= signed(reply);
         squares[field] -= square(reply);
         Words { sums, squares }
+    }
+
+    // The sum of all replies, in units of the smallest subnormal.
+    pub fn sum(&self) -> Signed
+        ensures sign { λ r. ⌜ r .negative ≡ ltb (spread 1 (ups (now (self .entry) .sums)) 255) (spread 1 (downs (now (self .entry) .sums)) 255) ⌝ }
+        ensures size { λ r. ⌜ bits-value (r .size .digits) ≡ (spread 1 (ups (now (self .entry) .sums)) 255 - spread 1 (downs (now (self .entry) .sums)) 255) + (spread 1 (downs (now (self .entry) .sums)) 255 - spread 1 (ups (now (self .entry) .sums)) 255) ⌝ }
+    {
+        signed_sum(&self.sums)
+    }
+
+    // The sum of all their squares, in units of the smallest subnormal's square.
+    pub fn sum_of_squares(&self) -> Bits
+        ensures { λ r. ⌜ bits-value (r .digits) ≡ spread 2 (λ k. getD (now (self .entry) .squares) k 0) 255 ⌝ }
+    {
+        sum_of_squares(&self.squares)
     }
 }

@@ -1,10 +1,10 @@
-use Prim.Native.Nat.{ℕ, _-_, _<_, _≤_}
+use Prim.Native.Nat.{ℕ, _-_, _<_}
 use mathlib.Core.Path.{_≡_, refl, ap, sym, subst, _∙_}
 use mathlib.Core.List.{List, [], _∷_, _++_}
 use native.Mathlib.Omega.{arith}
 use borrow.Author.Needs.{needs}
-use lib.ListN.{length, getD, take, drop}
-use Rattle.std.proofs.shelf.Lists.{length-drop, length-take-le, nil-from-length}
+use lib.ListN.{length, getD, take}
+use Rattle.std.proofs.shelf.Lists.{length-take-le, nil-from-length}
 use Rattle.rounding.specs.declared.encoding.Encoding.{Encoding}
 use Rattle.window.specs.Ring.{blank}
 use Rattle.window.specs.Window.{standing}

@@ -1,5 +1,5 @@
 use Prim.Native.Nat.{ℕ, _+_, _<_, _≤_}
-use mathlib.Core.Path.{_≡_, sym, _∙_, subst}
+use mathlib.Core.Path.{_≡_, sym, _∙_}
 use native.Mathlib.Omega.{arith}
 use borrow.Author.Needs.{needs}
 use borrow.Author.Differences.{ints}
@@ -8,7 +8,7 @@ use lib.ListN.{length, getD}
 use Rattle.rounding.specs.declared.encoding.Encoding.{Encoding}
 use Rattle.window.specs.Replies.{square-of}
 use Rattle.window.specs.Words.{signed-at, square-at}
-use Rattle.window.proofs.Adding.{at-place, signed-small, square-small, signed-here, signed-apart, square-here, square-apart}
+use Rattle.window.proofs.Adding.{at-place, signed-small, signed-here, signed-apart, square-here, square-apart}
 use Rattle.window.proofs.words.Words.without.Needs as need
 
 pub sub-sums : need.sub-sums
