@@ -1,3 +1,4 @@
 -- Lemmas of means.
 pub mod Asking
 pub mod Nearness
+pub mod Sums

@@ -5,13 +5,13 @@ use mathlib.Core.Logic.{_⊎_, inl, inr, ⊎-elim}
 use mathlib.Core.Bool.{Bool, true, false, cond, not, _||_}
 use lib.Dec.{eqb, ltb, lit<}
 use native.Mathlib.Omega.{arith}
-use native.Mathlib.Nat.{mod-lt, mul-le-mul-right, mul-lt-mul-of-pos-right}
+use native.Mathlib.Nat.{mul-one, mod-lt, mul-le-mul-right, mul-lt-mul-of-pos-right}
 use Rattle.std.proofs.shelf.Tests.{cases-lt, cases-eq, eq-eqb, ne-eqb, lt-ltb, le-ltb}
 use Rattle.std.proofs.shelf.Bits.{pow-pos, pow-add, div-add-mod', mul-le}
 use Rattle.rounding.specs.Truncation.{Near}
 use Rattle.arithmetic.proofs.Nearness.{near-ratio}
 
--- B is the count in the scale of the pair, Z what remains to the scale of rounding
+-- S is the sum and B the count, both in the scale of rounding
 module _ (S B D N rest q : ℕ) (Bp : 0 < B) (Dp : 0 < D) (parts : N * B + rest ≡ S * D) (below : rest < B) (qe : q ≡ N / D) where
   digits : q * D + N % D ≡ N
   digits = ap (λ (z : ℕ). z * D + N % D) qe ∙ div-add-mod' N D
@@ -41,13 +41,15 @@ module _ (S B D N rest q : ℕ) (Bp : 0 < B) (Dp : 0 < D) (parts : N * B + rest 
       simp (ne-eqb (q * D) N (λ e. omega (arith, digits)), lt-ltb 0 (N % D * B + rest) (omega arith)))
       (cases-eq (N % D) 0)
 
-pub mean-near : (S B D N rest q a b x Z : ℕ) (cut : Bool) → 0 < B → 0 < D → 0 < Z → N * B + rest ≡ S * D → rest < B → q ≡ N / D → b * 2 ^ x ≡ B * Z → a * 2 ^ 256 ≡ S * Z → cut ≡ (not (eqb (q * D) N) || ltb 0 rest) → Near q x cut a b
-mean-near S B D N rest q a b x Z cut Bp Dp Zp parts below qe be ae ce =
-    near-ratio q (D * B) (left S B D N rest q Bp Dp parts below qe) a b x D Z cut Dp Zp
-    (ap (λ (z : ℕ). z * D) be ∙ omega arith)
-    (ap (λ (z : ℕ). z * D) ae ∙ turned S D Z (q * (D * B) + left S B D N rest q Bp Dp parts below qe) (whole-parts S B D N rest q Bp Dp parts below qe))
-    (left-below S B D N rest q Bp Dp parts below qe)
-    (ce ∙ left-told S B D N rest q Bp Dp parts below qe)
+pub mean-near : (a b D N rest q x : ℕ) (cut : Bool) → 0 < b → 0 < D → N * (b * 2 ^ x) + rest ≡ a * 2 ^ 256 * D → rest < b * 2 ^ x → q ≡ N / D → cut ≡ (not (eqb (q * D) N) || ltb 0 rest) → Near q x cut a b
+mean-near a b D N rest q x cut bp Dp parts below qe ce =
+    let Bp : 0 < b * 2 ^ x = mul-le 1 1 b (2 ^ x) bp (pow-pos x) in
+    let l : ℕ = left (a * 2 ^ 256) (b * 2 ^ x) D N rest q Bp Dp parts below qe in
+    near-ratio q (D * (b * 2 ^ x)) l a b x D 1 cut Dp (lit< tt)
+    (turned (b * 2 ^ x) D)
+    (whole-parts (a * 2 ^ 256) (b * 2 ^ x) D N rest q Bp Dp parts below qe ∙ sym (mul-one (q * (D * (b * 2 ^ x)) + l)))
+    (left-below (a * 2 ^ 256) (b * 2 ^ x) D N rest q Bp Dp parts below qe)
+    (ce ∙ left-told (a * 2 ^ 256) (b * 2 ^ x) D N rest q Bp Dp parts below qe)
   where
-    turned : (S D Z w : ℕ) → S * D ≡ w → S * Z * D ≡ w * Z
-    turned S D Z w e = omega (arith, ap (λ (k : ℕ). k * Z) e)
+    turned : (B D : ℕ) → B * D ≡ D * B * 1
+    turned B D = omega arith

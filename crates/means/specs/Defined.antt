@@ -1,9 +1,9 @@
 -- The defined mean and mean square of standing replies, and what they ask the engine.
 use Prim.Native.Nat.{ℕ, _+_, _-_, _*_, _/_, _^_}
-use mathlib.Core.Bool.{Bool, true, false, cond}
+use mathlib.Core.Bool.{false, cond}
 use mathlib.Core.List.{List}
 use lib.Dec.{eqb}
-use lib.IntN.{ℤ, pos, negsuc, natAbs}
+use lib.IntN.{natAbs}
 use lib.ListN.{length}
 use Rattle.rounding.specs.declared.encoding.Encoding.{Encoding}
 use Rattle.rounding.specs.Format.{binary32}
@@ -13,11 +13,7 @@ use Rattle.rounding.specs.Rounding.{Outcome, rounded, doublings}
 use Rattle.arithmetic.specs.Defined.{aligned}
 use Rattle.engines.specs.declared.meaning.Log.{Log}
 use Rattle.engines.specs.Meaning.{counted}
-use Rattle.window.specs.Replies.{total, total-squares}
-
-abbrev pub below-zero : ℤ → Bool
-below-zero (pos n) = false
-below-zero (negsuc n) = true
+use Rattle.window.specs.Replies.{total, total-squares, below-zero}
 
 -- The exact mean: the sum over the number. The sum is in units of 2^-149.
 abbrev pub mean-value : List Encoding → Exact

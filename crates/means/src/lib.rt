@@ -1,1 +1,3 @@
 // Means and mean squares of a window, over any engine and rule, rounded once.
+mod answering;
+pub mod mean;
