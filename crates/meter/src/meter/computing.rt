@@ -3,13 +3,22 @@ ghost use mathlib.Core.Path.{_≡_};
 ghost use lib.Bits.{bitOr};
 ghost use Rattle.rounding.specs.Format.{binary32};
 ghost use Rattle.arithmetic.specs.Defined.{quotient, quotient-log, square, Gives};
+ghost use Rattle.means.specs.Defined.{mean, mean-square, mean-log, mean-square-log};
+ghost use Rattle.std.specs.Results.{Cases};
+ghost use Rattle.std.specs.declared.option.Option.the-variants.{Some, None};
+ghost use Rattle.meter.specs.Faults.{number};
 ghost use Rattle.meter.specs.Meters.{model};
+ghost use Rattle.meter.specs.Model.{refuses-empty};
 use super::Meter;
+use crate::fault::FromWindow;
+use crate::fault::MeterFault;
 use arithmetic::quotient::quotient;
 use arithmetic::square::square;
 use arithmetic::standing::StandingFlags;
 use engines::Engine;
 use engines::Log;
+use means::mean::mean;
+use means::mean::mean_square;
 use rounding::encoding::Encoding;
 use rounding::round::Answer;
 use rounding::rule::Rule;
@@ -61,5 +70,27 @@ impl<E: Engine, R: Rule> Meter<E, R> {
         ensures rule { λ _. ⌜ now (self .exit) .rule ≡ now (self .entry) .rule ⌝ }
     {
         square(&self.rule, flags, operand)
+    }
+
+    // The exact mean of the standing replies, rounded once.
+    pub fn mean(&mut self, flags: &mut StandingFlags) -> Result<Answer, MeterFault>
+        ensures result { λ r. ⌜ Cases r (λ a. (refuses-empty (model (now (self .entry))) ≡ None) × Gives a (mean (meaning (now (self .entry) .rule)) (model (now (self .entry)) .replies))) (λ fault. refuses-empty (model (now (self .entry))) ≡ Some (number fault)) ⌝ }
+        ensures gathered { λ r. ⌜ Cases r (λ a. now (flags .exit) .raised .number ≡ bitOr (now (flags .entry) .raised .number) (a .flags .number)) (λ _. now (flags .exit) ≡ now (flags .entry)) ⌝ }
+        ensures after { λ _. ⌜ model (now (self .exit)) ≡ model (now (self .entry)) ⌝ }
+        ensures engine { λ _. ⌜ logged (now (self .exit) .engine) ≡ mean-log (logged (now (self .entry) .engine)) (model (now (self .entry)) .replies) ⌝ }
+        ensures rule { λ _. ⌜ now (self .exit) .rule ≡ now (self .entry) .rule ⌝ }
+    {
+        Ok(mean(&self.window, &mut self.engine, &self.rule, flags)?)
+    }
+
+    // The exact mean of their squares, rounded once.
+    pub fn mean_square(&mut self, flags: &mut StandingFlags) -> Result<Answer, MeterFault>
+        ensures result { λ r. ⌜ Cases r (λ a. (refuses-empty (model (now (self .entry))) ≡ None) × Gives a (mean-square (meaning (now (self .entry) .rule)) (model (now (self .entry)) .replies))) (λ fault. refuses-empty (model (now (self .entry))) ≡ Some (number fault)) ⌝ }
+        ensures gathered { λ r. ⌜ Cases r (λ a. now (flags .exit) .raised .number ≡ bitOr (now (flags .entry) .raised .number) (a .flags .number)) (λ _. now (flags .exit) ≡ now (flags .entry)) ⌝ }
+        ensures after { λ _. ⌜ model (now (self .exit)) ≡ model (now (self .entry)) ⌝ }
+        ensures engine { λ _. ⌜ logged (now (self .exit) .engine) ≡ mean-square-log (logged (now (self .entry) .engine)) (model (now (self .entry)) .replies) ⌝ }
+        ensures rule { λ _. ⌜ now (self .exit) .rule ≡ now (self .entry) .rule ⌝ }
+    {
+        Ok(mean_square(&self.window, &mut self.engine, &self.rule, flags)?)
     }
 }
