@@ -2,7 +2,7 @@
 ghost use mathlib.Core.Path.{_≡_};
 ghost use Prim.Native.Nat.{_*_, _<_, _≤_};
 
-pub mod making;
+pub(crate) mod making;
 
 // A pair within an engine's range, with what has to be known to round its quotient: the quotient's scale, biased by 256, and whether digits of the
 // sum were cut off.
