@@ -6,6 +6,7 @@ mod computing;
 mod polls;
 mod replies;
 
+#[derive(Drop)]
 pub struct Meter<E, R> {
     address: Address,
     pending: bool,
