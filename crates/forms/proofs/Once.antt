@@ -24,10 +24,10 @@ use Rattle.forms.specs.declared.Form.{Form}
 use Rattle.forms.specs.declared.Form.the-variants.{Meter, Compute, Command, Poll, Try}
 use Rattle.forms.specs.declared.Poll.{Poll as Polling}
 use Rattle.forms.specs.declared.Setup.{Setup}
-use Rattle.forms.specs.declared.names.EngineName.{EngineName}
-use Rattle.forms.specs.declared.names.EngineName.the-variants.{Digits, Radix4, Cubic}
-use Rattle.forms.specs.declared.names.RuleName.{RuleName}
-use Rattle.forms.specs.declared.names.RuleName.the-variants.{Even, Away, Zero, Up, Down}
+use Rattle.engine_choice.specs.declared.EngineName.{EngineName}
+use Rattle.engine_choice.specs.declared.EngineName.the-variants.{Digits, Radix4, Cubic}
+use Rattle.rounding.specs.declared.rules.AnyRule.{AnyRule}
+use Rattle.rounding.specs.declared.rules.AnyRule.the-variants.{Even, Away, Zero, Up, Down}
 use Rattle.lex.proofs.Cuts.{group-same, pair-same}
 use Rattle.lex.proofs.Decimals.{solid-decimal}
 use Rattle.lex.proofs.Places.{digits-same}
@@ -51,10 +51,10 @@ engine-back Digits = refl
 engine-back Radix4 = refl
 engine-back Cubic = refl
 
-abbrev to-rule : List ℕ → RuleName
+abbrev to-rule : List ℕ → AnyRule
 to-rule s = by s 0 101 Even (by s 0 97 Away (by s 0 122 Zero (by s 0 117 Up Down)))
 
-rule-back : (r : RuleName) → to-rule (rule r) ≡ r
+rule-back : (r : AnyRule) → to-rule (rule r) ≡ r
 rule-back Even = refl
 rule-back Away = refl
 rule-back Zero = refl

@@ -7,8 +7,8 @@ use Rattle.forms.specs.Calculations.{Encodings, Sized, calculation, divided}
 use Rattle.forms.specs.Setups.{engine}
 use Rattle.forms.specs.declared.Calculation.{Calculation}
 use Rattle.forms.specs.declared.Calculation.the-variants.{Divide, Square, Mean, MeanSquare}
-use Rattle.forms.specs.declared.names.EngineName.{EngineName}
-use Rattle.forms.specs.declared.names.EngineName.the-variants.{Digits, Radix4, Cubic}
+use Rattle.engine_choice.specs.declared.EngineName.{EngineName}
+use Rattle.engine_choice.specs.declared.EngineName.the-variants.{Digits, Radix4, Cubic}
 use Rattle.lex.proofs.Cuts.{solid-from}
 use Rattle.lex.proofs.Places.{solid-digits}
 use Rattle.lex.specs.Numbers.{hex}

@@ -3,10 +3,10 @@ use mathlib.Core.List.{List}
 use Prim.Native.Nat.{ℕ, _<_}
 use lib.Chars.{codes}
 use Rattle.forms.specs.declared.Setup.{Setup}
-use Rattle.forms.specs.declared.names.EngineName.{EngineName}
-use Rattle.forms.specs.declared.names.EngineName.the-variants.{Digits, Radix4, Cubic}
-use Rattle.forms.specs.declared.names.RuleName.{RuleName}
-use Rattle.forms.specs.declared.names.RuleName.the-variants.{Even, Away, Zero, Up, Down}
+use Rattle.engine_choice.specs.declared.EngineName.{EngineName}
+use Rattle.engine_choice.specs.declared.EngineName.the-variants.{Digits, Radix4, Cubic}
+use Rattle.rounding.specs.declared.rules.AnyRule.{AnyRule}
+use Rattle.rounding.specs.declared.rules.AnyRule.the-variants.{Even, Away, Zero, Up, Down}
 use Rattle.lex.specs.Parts.{group, pair}
 use Rattle.std.specs.Written.{decimal}
 
@@ -15,7 +15,7 @@ engine Digits = codes "digits"
 engine Radix4 = codes "radix4"
 engine Cubic = codes "cubic"
 
-abbrev pub rule : RuleName → List ℕ
+abbrev pub rule : AnyRule → List ℕ
 rule Even = codes "even"
 rule Away = codes "away"
 rule Zero = codes "zero"
@@ -23,7 +23,7 @@ rule Up = codes "up"
 rule Down = codes "down"
 
 -- an engine and a rule
-abbrev pub fitting : EngineName × RuleName → List ℕ
+abbrev pub fitting : EngineName × AnyRule → List ℕ
 fitting p = pair (engine (p .0), rule (p .1))
 
 abbrev pub setup : Setup → List ℕ

@@ -7,23 +7,22 @@ ghost use Rattle.lex.specs.Reads.{Reads};
 mod calculations;
 mod commands;
 mod meters;
-pub mod names;
 mod polls;
 
 use calculations::read_calculation;
 use calculations::read_trial;
 use commands::read_command;
+use engine_choice::EngineName;
 use meters::read_setup;
-use names::EngineName;
-use names::RuleName;
 use polls::read_poll;
+use rounding::rules::AnyRule;
 
 // (meter ADDRESS ENGINE RULE). The address may still be none that a meter can have.
 #[derive(Clone, Copy)]
 pub struct Setup {
     pub address: u16,
     pub engine: EngineName,
-    pub rule: RuleName,
+    pub rule: AnyRule,
 }
 
 // (div H H), (sqr H), (mean) and (meansq), the operands as encodings.

@@ -2,12 +2,12 @@
 ghost use Rattle.forms.specs.Setups.{fitting, engine, rule, setup, Addressed};
 ghost use Rattle.lex.specs.Reads.{Reads};
 use crate::Setup;
-use crate::names::EngineName;
-use crate::names::RuleName;
+use engine_choice::EngineName;
 use lex::decimal;
 use lex::inside;
 use lex::is;
 use lex::split;
+use rounding::rules::AnyRule;
 
 fn read_engine(word: &[u8]) -> Option<EngineName>
     ensures { λ r. ⌜ Reads engine (λ _. Unit {0}) (now (word .entry)) r ⌝ }
@@ -23,26 +23,26 @@ fn read_engine(word: &[u8]) -> Option<EngineName>
     }
 }
 
-fn read_rule(word: &[u8]) -> Option<RuleName>
+fn read_rule(word: &[u8]) -> Option<AnyRule>
     ensures { λ r. ⌜ Reads rule (λ _. Unit {0}) (now (word .entry)) r ⌝ }
 {
     if is(word, b"even") {
-        Some(RuleName::Even)
+        Some(AnyRule::Even)
     } else if is(word, b"away") {
-        Some(RuleName::Away)
+        Some(AnyRule::Away)
     } else if is(word, b"zero") {
-        Some(RuleName::Zero)
+        Some(AnyRule::Zero)
     } else if is(word, b"up") {
-        Some(RuleName::Up)
+        Some(AnyRule::Up)
     } else if is(word, b"down") {
-        Some(RuleName::Down)
+        Some(AnyRule::Down)
     } else {
         None
     }
 }
 
 // ENGINE RULE
-fn read_fitting(text: &[u8]) -> Option<(EngineName, RuleName)>
+fn read_fitting(text: &[u8]) -> Option<(EngineName, AnyRule)>
     ensures { λ r. ⌜ Reads fitting (λ _. Unit {0}) (now (text .entry)) r ⌝ }
 {
     let (engine, rule) = split(text)?;

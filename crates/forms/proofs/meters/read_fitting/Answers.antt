@@ -2,14 +2,14 @@
 use Rattle.forms.proofs.Texts.{solid-engine}
 use Rattle.forms.proofs.meters.read_fitting.Needs as need
 use Rattle.forms.specs.Setups.{engine, rule}
-use Rattle.forms.specs.declared.names.EngineName.{EngineName}
-use Rattle.forms.specs.declared.names.RuleName.{RuleName}
+use Rattle.engine_choice.specs.declared.EngineName.{EngineName}
+use Rattle.rounding.specs.declared.rules.AnyRule.{AnyRule}
 use Rattle.lex.proofs.Cuts.{no-first, no-second, no-split}
 
 abbrev Any : EngineName → Type 0
 Any _ = Unit {0}
 
-abbrev Every : RuleName → Type 0
+abbrev Every : AnyRule → Type 0
 Every _ = Unit {0}
 
 pub returns-in-Break-engine : need.returns-in-Break-engine

@@ -5,8 +5,8 @@ use native.Mathlib.Omega.{arith}
 use lib.Chars.{codes}
 use Rattle.forms.proofs.meters.read_setup.Needs as need
 use Rattle.forms.specs.Setups.{fitting}
-use Rattle.forms.specs.declared.names.EngineName.{EngineName}
-use Rattle.forms.specs.declared.names.RuleName.{RuleName}
+use Rattle.engine_choice.specs.declared.EngineName.{EngineName}
+use Rattle.rounding.specs.declared.rules.AnyRule.{AnyRule}
 use Rattle.lex.proofs.Cuts.{group-same, no-first, no-second, no-split}
 use Rattle.lex.proofs.Decimals.{solid-decimal}
 use Rattle.lex.specs.Parts.{Solid}
@@ -15,7 +15,7 @@ use Rattle.std.specs.Written.{decimal}
 abbrev Short : ℕ → Type 0
 Short n = n < 1000
 
-abbrev Any : EngineName × RuleName → Type 0
+abbrev Any : EngineName × AnyRule → Type 0
 Any _ = Unit {0}
 
 solid : (n : ℕ) → Short n → Solid (decimal n)

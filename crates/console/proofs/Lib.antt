@@ -1,0 +1,2 @@
+-- Lemmas of the console.
+pub mod Fronts

@@ -1,0 +1,2 @@
+-- Lemmas of the session.
+pub mod Standing
