@@ -9,13 +9,14 @@ use crate::tokens::seen_and_ended;
 use crate::tokens::token_of;
 use arithmetic::standing::StandingFlags;
 use engines::Engine;
+use meter::call::Call;
 use meter::call::NamedPoll;
 use meter::meter::Meter;
 use meter::token::Refused;
 use rounding::encoding::Encoding;
 use rounding::rule::Rule;
 
-pub fn begin<E: Engine, R: Rule>(meter: &mut Meter<E, R>) -> Told
+fn begin<E: Engine, R: Rule>(meter: &mut Meter<E, R>) -> Told
     ensures told { λ r. ⌜ r ≡ told (meaning (now (meter .entry) .rule)) (model (now (meter .entry))) calls.Poll ⌝ }
     ensures after { λ _. ⌜ model (now (meter .exit)) ≡ after (model (now (meter .entry))) calls.Poll ⌝ }
     ensures engine { λ _. ⌜ now (meter .exit) .engine ≡ now (meter .entry) .engine ⌝ }
@@ -27,7 +28,7 @@ pub fn begin<E: Engine, R: Rule>(meter: &mut Meter<E, R>) -> Told
     }
 }
 
-pub fn repeat<E: Engine, R: Rule>(meter: &mut Meter<E, R>, named: NamedPoll) -> Told
+fn repeat<E: Engine, R: Rule>(meter: &mut Meter<E, R>, named: NamedPoll) -> Told
     ensures told { λ r. ⌜ r ≡ told (meaning (now (meter .entry) .rule)) (model (now (meter .entry))) (calls.Repeat named) ⌝ }
     ensures after { λ _. ⌜ model (now (meter .exit)) ≡ after (model (now (meter .entry))) (calls.Repeat named) ⌝ }
     ensures engine { λ _. ⌜ now (meter .exit) .engine ≡ now (meter .entry) .engine ⌝ }
@@ -42,7 +43,7 @@ pub fn repeat<E: Engine, R: Rule>(meter: &mut Meter<E, R>, named: NamedPoll) -> 
     }
 }
 
-pub fn reply<E: Engine, R: Rule>(
+fn reply<E: Engine, R: Rule>(
     meter: &mut Meter<E, R>,
     named: NamedPoll,
     encoding: Encoding,
@@ -61,7 +62,7 @@ pub fn reply<E: Engine, R: Rule>(
     }
 }
 
-pub fn lapse<E: Engine, R: Rule>(meter: &mut Meter<E, R>, named: NamedPoll) -> Told
+fn lapse<E: Engine, R: Rule>(meter: &mut Meter<E, R>, named: NamedPoll) -> Told
     ensures told { λ r. ⌜ r ≡ told (meaning (now (meter .entry) .rule)) (model (now (meter .entry))) (calls.Lapse named) ⌝ }
     ensures after { λ _. ⌜ model (now (meter .exit)) ≡ after (model (now (meter .entry))) (calls.Lapse named) ⌝ }
     ensures engine { λ _. ⌜ now (meter .exit) .engine ≡ now (meter .entry) .engine ⌝ }
@@ -73,7 +74,7 @@ pub fn lapse<E: Engine, R: Rule>(meter: &mut Meter<E, R>, named: NamedPoll) -> T
     }
 }
 
-pub fn retire<E: Engine, R: Rule>(meter: &mut Meter<E, R>) -> Told
+fn retire<E: Engine, R: Rule>(meter: &mut Meter<E, R>) -> Told
     ensures told { λ r. ⌜ r ≡ told (meaning (now (meter .entry) .rule)) (model (now (meter .entry))) calls.Retire ⌝ }
     ensures after { λ _. ⌜ model (now (meter .exit)) ≡ after (model (now (meter .entry))) calls.Retire ⌝ }
     ensures engine { λ _. ⌜ now (meter .exit) .engine ≡ now (meter .entry) .engine ⌝ }
@@ -85,7 +86,7 @@ pub fn retire<E: Engine, R: Rule>(meter: &mut Meter<E, R>) -> Told
     }
 }
 
-pub fn retract<E: Engine, R: Rule>(meter: &mut Meter<E, R>) -> Told
+fn retract<E: Engine, R: Rule>(meter: &mut Meter<E, R>) -> Told
     ensures told { λ r. ⌜ r ≡ told (meaning (now (meter .entry) .rule)) (model (now (meter .entry))) calls.Retract ⌝ }
     ensures after { λ _. ⌜ model (now (meter .exit)) ≡ after (model (now (meter .entry))) calls.Retract ⌝ }
     ensures engine { λ _. ⌜ now (meter .exit) .engine ≡ now (meter .entry) .engine ⌝ }
@@ -97,7 +98,7 @@ pub fn retract<E: Engine, R: Rule>(meter: &mut Meter<E, R>) -> Told
     }
 }
 
-pub fn quotient<E: Engine, R: Rule>(
+fn quotient<E: Engine, R: Rule>(
     meter: &mut Meter<E, R>,
     flags: &mut StandingFlags,
     dividend: Encoding,
@@ -111,7 +112,7 @@ pub fn quotient<E: Engine, R: Rule>(
     Told::Number(meter.quotient(flags, dividend, divisor))
 }
 
-pub fn square<E: Engine, R: Rule>(
+fn square<E: Engine, R: Rule>(
     meter: &mut Meter<E, R>,
     flags: &mut StandingFlags,
     operand: Encoding,
@@ -122,4 +123,49 @@ pub fn square<E: Engine, R: Rule>(
     ensures rule { λ _. ⌜ now (meter .exit) .rule ≡ now (meter .entry) .rule ⌝ }
 {
     Told::Number(meter.square(flags, operand))
+}
+
+fn mean<E: Engine, R: Rule>(meter: &mut Meter<E, R>, flags: &mut StandingFlags) -> Told
+    ensures told { λ r. ⌜ r ≡ told (meaning (now (meter .entry) .rule)) (model (now (meter .entry))) calls.Mean ⌝ }
+    ensures after { λ _. ⌜ model (now (meter .exit)) ≡ after (model (now (meter .entry))) calls.Mean ⌝ }
+    ensures engine { λ _. ⌜ logged (now (meter .exit) .engine) ≡ asked (logged (now (meter .entry) .engine)) (model (now (meter .entry))) calls.Mean ⌝ }
+    ensures rule { λ _. ⌜ now (meter .exit) .rule ≡ now (meter .entry) .rule ⌝ }
+{
+    match meter.mean(flags) {
+        Ok(answer) => Told::Number(answer),
+        Err(fault) => Told::Refused(fault.number()),
+    }
+}
+
+fn mean_square<E: Engine, R: Rule>(meter: &mut Meter<E, R>, flags: &mut StandingFlags) -> Told
+    ensures told { λ r. ⌜ r ≡ told (meaning (now (meter .entry) .rule)) (model (now (meter .entry))) calls.MeanSquare ⌝ }
+    ensures after { λ _. ⌜ model (now (meter .exit)) ≡ after (model (now (meter .entry))) calls.MeanSquare ⌝ }
+    ensures engine { λ _. ⌜ logged (now (meter .exit) .engine) ≡ asked (logged (now (meter .entry) .engine)) (model (now (meter .entry))) calls.MeanSquare ⌝ }
+    ensures rule { λ _. ⌜ now (meter .exit) .rule ≡ now (meter .entry) .rule ⌝ }
+{
+    match meter.mean_square(flags) {
+        Ok(answer) => Told::Number(answer),
+        Err(fault) => Told::Refused(fault.number()),
+    }
+}
+
+// Any call.
+pub fn perform<E: Engine, R: Rule>(meter: &mut Meter<E, R>, flags: &mut StandingFlags, call: Call) -> Told
+    ensures told { λ r. ⌜ r ≡ told (meaning (now (meter .entry) .rule)) (model (now (meter .entry))) call ⌝ }
+    ensures after { λ _. ⌜ model (now (meter .exit)) ≡ after (model (now (meter .entry))) call ⌝ }
+    ensures engine { λ _. ⌜ logged (now (meter .exit) .engine) ≡ asked (logged (now (meter .entry) .engine)) (model (now (meter .entry))) call ⌝ }
+    ensures rule { λ _. ⌜ now (meter .exit) .rule ≡ now (meter .entry) .rule ⌝ }
+{
+    match call {
+        Call::Poll => begin(meter),
+        Call::Repeat(named) => repeat(meter, named),
+        Call::Reply(named, encoding) => reply(meter, named, encoding),
+        Call::Lapse(named) => lapse(meter, named),
+        Call::Retire => retire(meter),
+        Call::Retract => retract(meter),
+        Call::Quotient { dividend, divisor } => quotient(meter, flags, dividend, divisor),
+        Call::Square { operand } => square(meter, flags, operand),
+        Call::Mean => mean(meter, flags),
+        Call::MeanSquare => mean_square(meter, flags),
+    }
 }
