@@ -1,5 +1,6 @@
 // Replay: lists of calls performed on two fresh meters, and the promise over whole runs.
 mod perform;
+pub mod replaying;
 pub mod step;
 mod stepping;
 mod tokens;

@@ -43,11 +43,7 @@ fn repeat<E: Engine, R: Rule>(meter: &mut Meter<E, R>, named: NamedPoll) -> Told
     }
 }
 
-fn reply<E: Engine, R: Rule>(
-    meter: &mut Meter<E, R>,
-    named: NamedPoll,
-    encoding: Encoding,
-) -> Told
+fn reply<E: Engine, R: Rule>(meter: &mut Meter<E, R>, named: NamedPoll, encoding: Encoding) -> Told
     ensures told { λ r. ⌜ r ≡ told (meaning (now (meter .entry) .rule)) (model (now (meter .entry))) (calls.Reply named encoding) ⌝ }
     ensures after { λ _. ⌜ model (now (meter .exit)) ≡ after (model (now (meter .entry))) (calls.Reply named encoding) ⌝ }
     ensures engine { λ _. ⌜ now (meter .exit) .engine ≡ now (meter .entry) .engine ⌝ }
@@ -150,7 +146,11 @@ fn mean_square<E: Engine, R: Rule>(meter: &mut Meter<E, R>, flags: &mut Standing
 }
 
 // Any call.
-pub fn perform<E: Engine, R: Rule>(meter: &mut Meter<E, R>, flags: &mut StandingFlags, call: Call) -> Told
+pub fn perform<E: Engine, R: Rule>(
+    meter: &mut Meter<E, R>,
+    flags: &mut StandingFlags,
+    call: Call,
+) -> Told
     ensures told { λ r. ⌜ r ≡ told (meaning (now (meter .entry) .rule)) (model (now (meter .entry))) call ⌝ }
     ensures after { λ _. ⌜ model (now (meter .exit)) ≡ after (model (now (meter .entry))) call ⌝ }
     ensures engine { λ _. ⌜ logged (now (meter .exit) .engine) ≡ asked (logged (now (meter .entry) .engine)) (model (now (meter .entry))) call ⌝ }

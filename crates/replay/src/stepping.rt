@@ -31,7 +31,11 @@ pub fn standing_of<E: Engine, R: Rule>(meter: &Meter<E, R>) -> [Encoding; 288]
 }
 
 // Performs a call and tells of it.
-pub fn step<E: Engine, R: Rule>(meter: &mut Meter<E, R>, flags: &mut StandingFlags, call: Call) -> Step
+pub fn step<E: Engine, R: Rule>(
+    meter: &mut Meter<E, R>,
+    flags: &mut StandingFlags,
+    call: Call,
+) -> Step
     ensures right { λ r. ⌜ Right (meaning (now (meter .entry) .rule)) (logged (now (meter .entry) .engine)) (model (now (meter .entry))) call r ⌝ }
     ensures after { λ _. ⌜ model (now (meter .exit)) ≡ after (model (now (meter .entry))) call ⌝ }
     ensures engine { λ _. ⌜ logged (now (meter .exit) .engine) ≡ asked (logged (now (meter .entry) .engine)) (model (now (meter .entry))) call ⌝ }
@@ -39,5 +43,10 @@ pub fn step<E: Engine, R: Rule>(meter: &mut Meter<E, R>, flags: &mut StandingFla
 {
     let told = perform(meter, flags, call);
     let standing = standing_of(meter);
-    Step { told, log: meter.log(), count: meter.standing(), standing }
+    Step {
+        told,
+        log: meter.log(),
+        count: meter.standing(),
+        standing,
+    }
 }
