@@ -36,7 +36,7 @@ impl ConsoleFault {
 pub impl From<MeterFault> for ConsoleFault as FromMeter {
     ghost converts = { λ m r. r ≡ faults.Meter m };
 
-    fn from(fault: MeterFault) -> ConsoleFault {
-        ConsoleFault::Meter(fault)
+    fn from(lower: MeterFault) -> ConsoleFault {
+        ConsoleFault::Meter(lower)
     }
 }

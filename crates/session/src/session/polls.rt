@@ -93,8 +93,8 @@ fn run(meter: &mut Meter<AnyEngine, AnyRule>, plan: Poll) -> Result<Answer, Mete
     match carry_on(meter, poll, plan) {
         Ok(answer) => Ok(answer),
         Err(refused) => {
-            let Refused { poll, fault } = refused;
-            let _ = meter.lapse(poll);
+            let Refused { poll: open, fault } = refused;
+            let _ = meter.lapse(open);
             Err(fault)
         }
     }
