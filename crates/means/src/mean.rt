@@ -25,6 +25,7 @@ pub fn mean<E: Engine, R: Rule>(
     ensures result { λ r. ⌜ Cases r (λ a. (0 < length (standing (now (window .entry)))) × Gives a (mean (meaning (now (rule .entry))) (standing (now (window .entry))))) (λ fault. (length (standing (now (window .entry))) ≡ 0) × (fault ≡ WindowFault.Empty)) ⌝ }
     ensures gathered { λ r. ⌜ Cases r (λ a. now (flags .exit) .raised .number ≡ bitOr (now (flags .entry) .raised .number) (a .flags .number)) (λ _. now (flags .exit) ≡ now (flags .entry)) ⌝ }
     ensures asked { λ _. ⌜ logged (now (engine .exit)) ≡ mean-log (logged (now (engine .entry))) (standing (now (window .entry))) ⌝ }
+    ensures untouched { λ r. ⌜ Cases r (λ _. Unit {0}) (λ _. now (engine .exit) ≡ now (engine .entry)) ⌝ }
 {
     let answer = answer_ask(engine, rule, window.mean_ask()?);
     flags.raise(answer.flags);
@@ -41,6 +42,7 @@ pub fn mean_square<E: Engine, R: Rule>(
     ensures result { λ r. ⌜ Cases r (λ a. (0 < length (standing (now (window .entry)))) × Gives a (mean-square (meaning (now (rule .entry))) (standing (now (window .entry))))) (λ fault. (length (standing (now (window .entry))) ≡ 0) × (fault ≡ WindowFault.Empty)) ⌝ }
     ensures gathered { λ r. ⌜ Cases r (λ a. now (flags .exit) .raised .number ≡ bitOr (now (flags .entry) .raised .number) (a .flags .number)) (λ _. now (flags .exit) ≡ now (flags .entry)) ⌝ }
     ensures asked { λ _. ⌜ logged (now (engine .exit)) ≡ mean-square-log (logged (now (engine .entry))) (standing (now (window .entry))) ⌝ }
+    ensures untouched { λ r. ⌜ Cases r (λ _. Unit {0}) (λ _. now (engine .exit) ≡ now (engine .entry)) ⌝ }
 {
     let answer = answer_ask(engine, rule, window.mean_square_ask()?);
     flags.raise(answer.flags);

@@ -78,6 +78,7 @@ impl<E: Engine, R: Rule> Meter<E, R> {
         ensures gathered { λ r. ⌜ Cases r (λ a. now (flags .exit) .raised .number ≡ bitOr (now (flags .entry) .raised .number) (a .flags .number)) (λ _. now (flags .exit) ≡ now (flags .entry)) ⌝ }
         ensures after { λ _. ⌜ model (now (self .exit)) ≡ model (now (self .entry)) ⌝ }
         ensures engine { λ _. ⌜ logged (now (self .exit) .engine) ≡ mean-log (logged (now (self .entry) .engine)) (model (now (self .entry)) .replies) ⌝ }
+        ensures untouched { λ r. ⌜ Cases r (λ _. Unit {0}) (λ _. now (self .exit) .engine ≡ now (self .entry) .engine) ⌝ }
         ensures rule { λ _. ⌜ now (self .exit) .rule ≡ now (self .entry) .rule ⌝ }
     {
         Ok(mean(&self.window, &mut self.engine, &self.rule, flags)?)
@@ -89,6 +90,7 @@ impl<E: Engine, R: Rule> Meter<E, R> {
         ensures gathered { λ r. ⌜ Cases r (λ a. now (flags .exit) .raised .number ≡ bitOr (now (flags .entry) .raised .number) (a .flags .number)) (λ _. now (flags .exit) ≡ now (flags .entry)) ⌝ }
         ensures after { λ _. ⌜ model (now (self .exit)) ≡ model (now (self .entry)) ⌝ }
         ensures engine { λ _. ⌜ logged (now (self .exit) .engine) ≡ mean-square-log (logged (now (self .entry) .engine)) (model (now (self .entry)) .replies) ⌝ }
+        ensures untouched { λ r. ⌜ Cases r (λ _. Unit {0}) (λ _. now (self .exit) .engine ≡ now (self .entry) .engine) ⌝ }
         ensures rule { λ _. ⌜ now (self .exit) .rule ≡ now (self .entry) .rule ⌝ }
     {
         Ok(mean_square(&self.window, &mut self.engine, &self.rule, flags)?)

@@ -13,6 +13,7 @@ ghost use Rattle.session.specs.Outcomes.{refuses-calculation, outcome, log-aft
 ghost use Rattle.session.specs.Sessions.{state};
 use super::Session;
 use crate::fault::ConsoleFault;
+use crate::fault::FromMeter;
 use answers::Answer;
 use arithmetic::standing::StandingFlags;
 use arithmetic::standing::Trial;
@@ -32,7 +33,7 @@ fn calculate(
 ) -> Result<Answer, ConsoleFault>
     ensures result { λ r. ⌜ Cases r (λ a. (refuses-calculation (model (now (meter .entry))) calculation ≡ None) × (a ≡ number-of (outcome (now (meter .entry) .rule) (model (now (meter .entry))) calculation)) × (now (flags .exit) .raised .number ≡ bitOr (now (flags .entry) .raised .number) (outcome (now (meter .entry) .rule) (model (now (meter .entry))) calculation .flags))) (λ fault. (refuses-calculation (model (now (meter .entry))) calculation ≡ Some (number fault)) × (now (flags .exit) .raised .number ≡ now (flags .entry) .raised .number)) ⌝ }
     ensures meter { λ _. ⌜ model (now (meter .exit)) ≡ model (now (meter .entry)) ⌝ }
-    ensures engine { λ _. ⌜ logOf (now (meter .exit) .engine) ≡ log-after (logOf (now (meter .entry) .engine)) (model (now (meter .entry))) calculation ⌝ }
+    ensures engine { λ r. ⌜ Cases r (λ _. logOf (now (meter .exit) .engine) ≡ log-after (logOf (now (meter .entry) .engine)) (model (now (meter .entry))) calculation) (λ _. logOf (now (meter .exit) .engine) ≡ logOf (now (meter .entry) .engine)) ⌝ }
     ensures rule { λ _. ⌜ now (meter .exit) .rule ≡ now (meter .entry) .rule ⌝ }
 {
     let answer = match calculation {
@@ -42,7 +43,8 @@ fn calculate(
             Encoding::from_bits(divisor),
         ),
         Calculation::Square { operand } => meter.square(flags, Encoding::from_bits(operand)),
-        Calculation::Mean | Calculation::MeanSquare => return Err(ConsoleFault::Text),
+        Calculation::Mean => meter.mean(flags)?,
+        Calculation::MeanSquare => meter.mean_square(flags)?,
     };
     Ok(Answer::Number {
         encoding: answer.encoding.to_bits(),
@@ -51,7 +53,7 @@ fn calculate(
 }
 
 impl Session {
-    pub fn compute(&mut self, calculation: Calculation) -> Result<Answer, ConsoleFault>
+    pub(crate) fn compute(&mut self, calculation: Calculation) -> Result<Answer, ConsoleFault>
         requires { ⌜ now self .ready ≡ true ⌝ }
         ensures { λ r. ⌜ Comes (state (now (self .entry))) (form.Compute calculation) r (state (now (self .exit))) ⌝ }
     {
@@ -59,7 +61,7 @@ impl Session {
     }
 
     // The record is as before on every way out.
-    pub fn attempt(&mut self, calculation: Calculation) -> Result<Answer, ConsoleFault>
+    pub(crate) fn attempt(&mut self, calculation: Calculation) -> Result<Answer, ConsoleFault>
         requires { ⌜ now self .ready ≡ true ⌝ }
         ensures { λ r. ⌜ Comes (state (now (self .entry))) (form.Try calculation) r (state (now (self .exit))) ⌝ }
     {

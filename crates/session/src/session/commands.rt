@@ -53,7 +53,7 @@ impl Session {
         Answer::Flags(self.standing.raised().number())
     }
 
-    pub fn command(&mut self, command: Command) -> Result<Answer, ConsoleFault>
+    pub(crate) fn command(&mut self, command: Command) -> Result<Answer, ConsoleFault>
         requires { ⌜ now self .ready ≡ true ⌝ }
         ensures { λ r. ⌜ Comes (state (now (self .entry))) (form.Command command) r (state (now (self .exit))) ⌝ }
     {

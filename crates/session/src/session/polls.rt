@@ -101,7 +101,7 @@ fn run(meter: &mut Meter<AnyEngine, AnyRule>, plan: Poll) -> Result<Answer, Mete
 }
 
 impl Session {
-    pub fn poll(&mut self, plan: Poll) -> Result<Answer, ConsoleFault>
+    pub(crate) fn poll(&mut self, plan: Poll) -> Result<Answer, ConsoleFault>
         requires { ⌜ now self .ready ≡ true ⌝ }
         ensures { λ r. ⌜ Comes (state (now (self .entry))) (form.Poll plan) r (state (now (self .exit))) ⌝ }
     {

@@ -15,7 +15,7 @@ use meter::meter::Meter;
 
 impl Session {
     // A meter made anew, once the address is checked.
-    pub fn set_up(&mut self, setup: Setup) -> Result<Answer, ConsoleFault>
+    pub(crate) fn set_up(&mut self, setup: Setup) -> Result<Answer, ConsoleFault>
         requires { ⌜ now self .ready ≡ false ⌝ }
         ensures comes { λ r. ⌜ Comes (state (now (self .entry))) (form.Meter setup) r (state (now (self .exit))) ⌝ }
         ensures fitted { λ r. ⌜ Fitted (form.Meter setup) r (engine-of (now (self .exit))) ⌝ }

@@ -24,4 +24,5 @@ returns g c =
       result = (d .0, c .answer-ask-answer .ensures .answer (below-zero (total xs)) (natAbs (total xs)) (length xs) 149 (d .0) (zero-sign (total xs)) (d .1));
       gathered = c .raise .ensures;
       asked = c .answer-ask-answer .ensures .after (below-zero (total xs)) (natAbs (total xs)) (length xs) 149 (d .0) few (d .1);
+      untouched = tt;
     }

@@ -24,4 +24,5 @@ returns g c =
       result = (d .0, c .answer-ask-answer .ensures .answer false (total-squares xs) (length xs) 298 (d .0) (λ z. refl) (d .1));
       gathered = c .raise .ensures;
       asked = c .answer-ask-answer .ensures .after false (total-squares xs) (length xs) 298 (d .0) few (d .1);
+      untouched = tt;
     }
