@@ -6,7 +6,7 @@ use mathlib.Core.Bool.{Bool, true, false, cond}
 use native.Mathlib.Omega.{arith}
 use native.Mathlib.Nat.{pow-succ'}
 use native.Mathlib.Numerals.{add-one}
-use lib.Dec.{ltb}
+use lib.Dec.{lit<, ltb}
 use lib.IntN.{ℤ, pos, negℤ}
 use lib.Signed.{ltZ}
 use borrow.Author.Differences.{up, down, ints, true-is-lt, false-is-lt}
@@ -15,46 +15,18 @@ use Rattle.std.proofs.shelf.Tests.{cases-lt, lt-ltb, le-ltb}
 use Rattle.std.proofs.shelf.Bits.{pow-pos}
 use Rattle.rounding.specs.declared.encoding.Encoding.{Encoding}
 use Rattle.rounding.specs.Format.{binary32, negative, size, significand, shift, value}
+use Rattle.rounding.proofs.Values.{value-lt as lesser-value, value-le as lesser-or-equal-value}
 use Rattle.window.specs.Replies.{worth-of, rank}
-
--- the next significand at the same place, or the first of the next place
-next : (n : ℕ) → ((shift 8388608 (n + 1) ≡ shift 8388608 n) × (significand 8388608 (n + 1) ≡ significand 8388608 n + 1)) ⊎ ((shift 8388608 (n + 1) ≡ shift 8388608 n + 1) × (significand 8388608 (n + 1) ≡ 8388608) × (significand 8388608 n + 1 ≡ 16777216))
-unfolding significand shift
-next n = grind (arith, tells)
-
-value-step : (n : ℕ) → value 8388608 n < value 8388608 (n + 1)
-unfolding value
-value-step n =
-    let j : ℕ = shift 8388608 n in
-    let m : ℕ = significand 8388608 n in
-    ⊎-elim
-    (λ h. rw (h .0, h .1) (omega (arith, pow-pos j)))
-    (λ h.
-    let p : 2 ^ (j + 1) ≡ 2 * 2 ^ j = rw add-one (pow-succ' 2 j) in
-    rw (h .0, h .1, p) (omega (arith, pow-pos j, ap (λ (z : ℕ). z * 2 ^ j) (h .2))))
-    (next n)
 
 value-none : value 8388608 0 ≡ 0
 unfolding value significand shift
 value-none = refl
 
-value-rise : (n k : ℕ) → value 8388608 n < value 8388608 (n + (k + 1))
-value-rise n zero = value-step n
-value-rise n (suc k) =
-    let e : n + (suc k + 1) ≡ (n + (k + 1)) + 1 = omega arith in
-    rw e (omega (arith, value-rise n k, value-step (n + (k + 1))))
-
 pub value-lt : (n m : ℕ) → n < m → value 8388608 n < value 8388608 m
-value-lt n m lt =
-    let e : n + ((m - n - 1) + 1) ≡ m = omega arith in
-    subst (λ (z : ℕ). value 8388608 n < value 8388608 z) e (value-rise n (m - n - 1))
+value-lt n m lt = lesser-value 8388608 n m (lit< tt) lt
 
 pub value-le : (n m : ℕ) → n ≤ m → value 8388608 n ≤ value 8388608 m
-value-le n m le =
-    ⊎-elim
-    (λ (lt : n < m). omega (arith, value-lt n m lt))
-    (λ (ge : m ≤ n). let e : n ≡ m = omega arith in rw e (omega arith))
-    (cases-lt n m)
+value-le n m le = lesser-or-equal-value 8388608 n m (lit< tt) le
 
 -- two tests that agree
 agree : (a b : ℕ) (x y : ℤ) → (a < b → up x + down y < up y + down x) → (b ≤ a → up y + down x ≤ up x + down y) → ltb a b ≡ ltZ x y
