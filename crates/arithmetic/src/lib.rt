@@ -5,3 +5,5 @@ mod operand;
 pub mod quotient;
 pub mod square;
 pub mod standing;
+#[cfg(test)]
+mod tests;
