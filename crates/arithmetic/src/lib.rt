@@ -4,3 +4,5 @@ mod operand;
 pub mod quotient;
 pub mod square;
 pub mod standing;
+#[cfg(test)]
+mod tests;
