@@ -1,5 +1,5 @@
 // Runs many pairs through all three engines. Their estimates may differ inside the band; their whole quotients never do, and
-// agree with the machine's own division.
+// agree with the machine's own division, and so their rounded quotients never do either.
 ghost use mathlib.Core.Path.{_≡_};
 
 mod pairs;
@@ -12,7 +12,7 @@ use std::io;
 
 // Fills the tally from a fixed seed, so that each run is the same.
 fn surveyed(count: u32) -> Tally
-    ensures { λ r. ⌜ r .quotients ≡ 0 ⌝ }
+    ensures { λ r. ⌜ (r .quotients ≡ 0) × (r .rounded ≡ 0) ⌝ }
 {
     let mut random = Random::new();
     let mut engines = Three::new();
@@ -31,9 +31,11 @@ fn main(rt: LibcRuntime) -> io::Result<()> {
     let cubic = tally.cubic_estimates;
     let widest = tally.widest;
     let quotients = tally.quotients;
+    let rounded = tally.rounded;
     println!(rt, "{pairs} pairs")?;
     println!(rt, "radix4 estimates otherwise than digits: {radix4}")?;
     println!(rt, "cubic estimates otherwise than digits: {cubic}")?;
     println!(rt, "furthest apart: {widest}")?;
-    println!(rt, "whole quotients that differ: {quotients}")
+    println!(rt, "whole quotients that differ: {quotients}")?;
+    println!(rt, "rounded quotients that differ: {rounded}")
 }
