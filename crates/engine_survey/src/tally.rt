@@ -130,5 +130,7 @@ fn rounded_over<E: Engine>(engine: &mut E, dividend: Encoding, divisor: Encoding
     ensures { λ r. ⌜ r ≡ quotient binary32 even-rule (dividend .bits) (divisor .bits) .bits ⌝ }
 {
     let mut standing = StandingFlags::new();
-    quotient(engine, &Even, &mut standing, dividend, divisor).encoding.to_bits()
+    quotient(engine, &Even, &mut standing, dividend, divisor)
+        .encoding
+        .to_bits()
 }
