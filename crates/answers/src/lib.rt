@@ -1,4 +1,6 @@
 // What the console answers to a line, and its text in a buffer that is lent.
+#![tactic(auto)]
+
 ghost use Rattle.std.specs.Prelude.{◌≡◌, ◌++◌, length, drop};
 ghost use Rattle.answers.specs.Answers.{text};
 

@@ -1,4 +1,6 @@
 // Quotients and squares of binary32 encodings over any engine and rule, with their flags.
+#![tactic(auto)]
+
 mod class;
 mod operand;
 pub mod quotient;

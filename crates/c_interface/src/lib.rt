@@ -1,4 +1,6 @@
 // The C boundary: quotient, square and a meter's calls over plain numbers, each checked as it comes in.
+#![tactic(auto)]
+
 pub mod answer;
 mod chosen;
 pub mod data;

@@ -1,6 +1,8 @@
 // Puts many quotients, squares, means and mean squares to the product, over its three engines and under its five rules, and to
 // another implementation, which looks for the answer among all encodings by exact cross products. Where quotients and squares
 // are rounded to even, the machine answers too.
+#![tactic(auto)]
+
 mod bench;
 mod pairs;
 mod questions;

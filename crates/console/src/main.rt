@@ -1,4 +1,6 @@
 // The console: each line of standard input gets its answer on standard output, written before more is read.
+#![tactic(auto)]
+
 mod line;
 mod replies;
 

@@ -1,4 +1,6 @@
 // `cubic`: a reciprocal of the divisor from a cubic polynomial, refined until the dividend times it lies in the band.
+#![tactic(auto)]
+
 ghost use Rattle.std.specs.Prelude.{◌≡◌};
 ghost use Rattle.engines.specs.Meaning.{none};
 

@@ -1,4 +1,6 @@
 // Which engine, by name: a plain enum that is an engine itself, so that a program can pick one as it runs.
+#![tactic(auto)]
+
 ghost use Rattle.std.specs.Prelude.{◌≡◌};
 ghost use Rattle.engines.specs.Meaning.{none};
 ghost use Rattle.engine_choice.specs.Choice.{named, log_of};

@@ -1,5 +1,7 @@
 // Runs many pairs through all three engines. Their estimates may differ inside the band; their whole quotients never do, and
 // agree with the machine's own division, and so their rounded quotients never do either.
+#![tactic(auto)]
+
 ghost use Rattle.std.specs.Prelude.{◌≡◌};
 
 mod pairs;

@@ -1,4 +1,6 @@
 // Console lines: the forms that they can have, and `read`, which finds the form of a line.
+#![tactic(auto)]
+
 ghost use Rattle.std.specs.Prelude.{◌≤◌, length};
 ghost use Rattle.forms.specs.Forms.{Good, OneForm, text};
 ghost use Rattle.lex.specs.Reads.{Reads};

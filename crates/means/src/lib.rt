@@ -1,4 +1,6 @@
 // Means and mean squares of a window, over any engine and rule, rounded once.
+#![tactic(auto)]
+
 mod answering;
 pub mod mean;
 #[cfg(test)]

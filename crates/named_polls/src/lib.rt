@@ -1,4 +1,6 @@
 // Polls by their numbers: tokens made by a meter of their own, since a poll may come from any meter, and ended where that changes nothing.
+#![tactic(auto)]
+
 ghost use Rattle.std.specs.Prelude.{◌≡◌, ◌+◌, true, false, None, MatchOption};
 ghost use Rattle.meter.specs.Attempts.{attempt_number};
 ghost use Rattle.meter.specs.Meters.{model};

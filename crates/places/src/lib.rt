@@ -1,4 +1,6 @@
 // Exact sums of words by their binary digits, and the pair of whole numbers that a mean asks an engine for.
+#![tactic(auto)]
+
 pub mod bits;
 mod carry;
 pub mod laws;

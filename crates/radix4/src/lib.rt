@@ -1,5 +1,7 @@
 // `radix4`: two quotient bits a step, with digits from -2 to 2. Two constants, taken from the leading bits of the divisor,
 // choose each digit, so that no multiple of the divisor has to be tried.
+#![tactic(auto)]
+
 ghost use Rattle.std.specs.Prelude.{true, ◌≡◌, ◌+◌, ◌*◌, ◌^◌, ◌<◌, ◌≤◌, pos, ◌+ℤ◌, ◌*ℤ◌, ◌<ℤ◌};
 ghost use Rattle.engines.specs.Band.{in_range, Band};
 ghost use Rattle.engines.specs.Meaning.{none};

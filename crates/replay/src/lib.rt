@@ -1,4 +1,6 @@
 // Replay: lists of calls performed on two fresh meters, and the promise over whole runs.
+#![tactic(auto)]
+
 pub mod examples;
 mod perform;
 pub mod replaying;

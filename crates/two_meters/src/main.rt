@@ -1,5 +1,7 @@
 // Two meters with different engines are given two lists of calls by one replay. What each call told is printed, with how many
 // replies stood then and how many estimates the engine had given.
+#![tactic(auto)]
+
 mod lists;
 mod text;
 

@@ -1,4 +1,6 @@
 // The window of standing replies: at most 288 finite encodings in the order of their coming, with their exact sums at hand.
+#![tactic(auto)]
+
 pub mod asked;
 pub mod fault;
 mod order;

@@ -1,6 +1,8 @@
 // A workload for the benchmark: a window with a given number of replies goes through rounds of one kind of call. What came of them is
 // printed as a checksum, so that no compiler may leave any of it out.
 //     workload replies|means|mean-squares STANDING ROUNDS
+#![tactic(auto)]
+
 mod rounds;
 
 use crate::rounds::{Kind, Rounds};
