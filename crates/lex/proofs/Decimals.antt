@@ -1,5 +1,5 @@
 -- Decimals without leading zeros are the digits of their number.
-use Rattle.std.proofs.Common.{◌≡◌, ℕ, zero, suc, ◌+◌, ◌-◌, ◌*◌, ◌/◌, ◌%◌, ◌^◌, ◌<◌, ◌≤◌, ◌⊎◌, List, [], ◌∷◌, ◌++◌, length, get_or, decimal, sym, ap, ◌∙◌, subst, ⊎_elim, mod-eq_of_lt, pow_suc, add-one, arith}
+use Rattle.std.proofs.Common.{◌≡◌, ℕ, zero, suc, ◌+◌, ◌-◌, ◌*◌, ◌/◌, ◌%◌, ◌^◌, ◌<◌, ◌≤◌, ◌⊎◌, List, [], ◌∷◌, ◌++◌, length, get_or, decimal, sym, ap, ◌∙◌, subst, ⊎_elim, mod-eq_of_lt, pow-suc, add-one, arith}
 use native.Mathlib.Nat.{one-le-pow, pow-le-pow_right}
 use Rattle.lex.proofs.Places.{digits_push, length_digits, pow_next, solid_digits}
 use Rattle.lex.specs.Numbers.{Unpadded, digit, digits}
@@ -43,9 +43,9 @@ decimal_digits zero n h top fits = decimal_digit n h ∙ sym (one_digit n h)
 decimal_digits (suc k) n h top fits =
     let big : 10 ^ suc k ≤ n = top (omega arith) in
     let some : 0 < 10 ^ k = one-le-pow k 10 (omega arith) in
-    let ten : 10 ≤ n = omega (arith, pow_suc 10 k) in
+    let ten : 10 ≤ n = omega (arith, pow-suc 10 k) in
     let under : n / 10 < 10 ^ (k + 1) = omega (arith, pow_next 10 (k + 1), ap (λ (j : ℕ). 10 ^ (j + 1)) (add-one k)) in
-    let over : 10 ^ k ≤ n / 10 = omega (arith, pow_suc 10 k) in
+    let over : 10 ^ k ≤ n / 10 = omega (arith, pow-suc 10 k) in
     decimal_step n ten fits
     ∙ ap (λ (s : List ℕ). s ++ ((48 + n % 10) ∷ [])) (
     decimal_digits k (n / 10) under (λ _. over) (omega arith) ∙ ap (λ (j : ℕ). digits 10 j (n / 10)) (add-one k)
@@ -56,7 +56,7 @@ decimal_digits (suc k) n h top fits =
 first_zero : (k n : ℕ) → n < 10 ^ k → get_or (digits 10 (k + 1) n) 0 0 ≡ 48
 first_zero zero n h = ap (λ (s : List ℕ). get_or s 0 0) (one_digit n (omega arith)) ∙ omega arith
 first_zero (suc k) n h =
-    let under : n / 10 < 10 ^ k = omega (arith, pow_suc 10 k) in
+    let under : n / 10 < 10 ^ k = omega (arith, pow-suc 10 k) in
     ap (λ (s : List ℕ). get_or s 0 0) (last_digit (suc k) n)
     ∙ get_or_append_left (digits 10 (suc k) (n / 10)) _ 0 0 (omega (arith, length_digits 10 (suc k) (n / 10)))
     ∙ ap (λ (j : ℕ). get_or (digits 10 j (n / 10)) 0 0) (sym (add-one k))

@@ -1,5 +1,5 @@
 -- Lemmas on the digits of a number.
-use Rattle.std.proofs.Common.{◌≡◌, ℕ, zero, suc, ◌+◌, ◌*◌, ◌/◌, ◌%◌, ◌^◌, ◌<◌, ◌≤◌, ◌⊎◌, List, [], ◌∷◌, ◌++◌, length, get_or, take, sym, refl, ap, ◌∙◌, ⊎_elim, mul-le-mul_right, mod-lt, pow_suc, div-add-mod', add-one, arith}
+use Rattle.std.proofs.Common.{◌≡◌, ℕ, zero, suc, ◌+◌, ◌*◌, ◌/◌, ◌%◌, ◌^◌, ◌<◌, ◌≤◌, ◌⊎◌, List, [], ◌∷◌, ◌++◌, length, get_or, take, sym, refl, ap, ◌∙◌, ⊎_elim, mul-le-mul_right, mod-lt, pow-suc, div-add-mod', add-one, arith}
 use native.Mathlib.Nat.{pow-le-pow_left, pow-le-pow_right, pow-zero}
 use lib.Arith.{digits_div, digits_mod}
 use Rattle.lex.specs.Numbers.{digit, digits}
@@ -34,7 +34,7 @@ digit_at base (suc k) n i pos l =
 
 -- the bounds of a number of k digits
 pub pow_next : (base k : ℕ) → base ^ (k + 1) ≡ base ^ k * base
-pow_next base k = rw add-one (pow_suc base k)
+pow_next base k = rw add-one (pow-suc base k)
 
 pub value_push : (base k v d : ℕ) → v < base ^ k → d < base → v * base + d < base ^ (k + 1)
 value_push base k v d h l = rw (pow_next base k) (omega (arith, mul-le-mul_right base h))
@@ -68,7 +68,7 @@ digits_same base zero m n pos h g e = omega (arith, rw pow-zero at h, rw pow-zer
 digits_same base (suc k) m n pos h g e =
     let p = same_from_push (digits base k (m / base)) (digits base k (n / base)) (digit (m % base)) (digit (n % base)) e in
     let q : m / base ≡ n / base =
-    digits_same base k (m / base) (n / base) pos (div_below m base (base ^ k) pos (rw pow_suc at h)) (div_below n base (base ^ k) pos (rw pow_suc at g)) p.0
+    digits_same base k (m / base) (n / base) pos (div_below m base (base ^ k) pos (rw pow-suc at h)) (div_below n base (base ^ k) pos (rw pow-suc at g)) p.0
     in
     let r : m % base ≡ n % base = digit_same (m % base) (n % base) p.1 in
     sym (div-add-mod' m base) ∙ cc (q, r) ∙ div-add-mod' n base
