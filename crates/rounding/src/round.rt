@@ -107,7 +107,7 @@ fn low_size(split: Split) -> u64
 // That size, or the next one where the rule says so.
 fn chosen_size<R: Rule>(rule: &R, negative: bool, split: Split, low: u64) -> u64
     requires { low < 1099511627776 }
-    ensures { result ≡ (if (meaning rule.now).grow negative (split.units % 2 == 1) split.left then 1 else 0) + low }
+    ensures { result ≡ (if (R.meaning rule.now).grow negative (split.units % 2 == 1) split.left then 1 else 0) + low }
 {
     if rule.grows(negative, split.units % 2 == 1, split.left) {
         low + 1
@@ -118,7 +118,7 @@ fn chosen_size<R: Rule>(rule: &R, negative: bool, split: Split, low: u64) -> u64
 
 // Where an overflow goes.
 fn overflow_size<R: Rule>(rule: &R, negative: bool) -> u32
-    ensures { result ≡ (if (meaning rule.now).infinite negative then 2139095040 else 2139095039) }
+    ensures { result ≡ (if (R.meaning rule.now).infinite negative then 2139095040 else 2139095039) }
 {
     if rule.overflows_to_infinity(negative) {
         INFINITY
@@ -129,8 +129,8 @@ fn overflow_size<R: Rule>(rule: &R, negative: bool) -> u32
 
 // The defined encoding and flags of every value that the truncated one stands for.
 pub fn round<R: Rule>(rule: &R, negative: bool, value: Truncated) -> Answer
-    ensures encoding { (a b : ℕ) → 0 < b → Near value.quotient value.scale value.cut a b → result.encoding.bits ≡ joined binary32 negative (settled (meaning rule.now) negative (infinity binary32) (chosen (meaning rule.now) negative 8388608 a b)) }
-    ensures flags { (a b : ℕ) → 0 < b → Near value.quotient value.scale value.cut a b → result.flags.number ≡ raised (meaning rule.now) negative 8388608 (infinity binary32) a b }
+    ensures encoding { (a b : ℕ) → 0 < b → Near value.quotient value.scale value.cut a b → result.encoding.bits ≡ joined binary32 negative (settled (R.meaning rule.now) negative (infinity binary32) (chosen (R.meaning rule.now) negative 8388608 a b)) }
+    ensures flags { (a b : ℕ) → 0 < b → Near value.quotient value.scale value.cut a b → result.flags.number ≡ raised (R.meaning rule.now) negative 8388608 (infinity binary32) a b }
 {
     let split = split_at_place(value);
     let low = low_size(split);

@@ -9,7 +9,7 @@ step-found-requires c = (
     c.loop-done.invariant.1,
     omega (
       arith,
-      room c.loop-done.-done c.loop-done.found.bits c.args.wide c.loop-done.found.rest
+      room c.loop-done._done c.loop-done.found.bits c.args.wide c.loop-done.found.rest
           c.args.dividend (omega arith) c.loop-done.invariant.0 c.requires.1,
     ),
   ),
@@ -17,7 +17,7 @@ step-found-requires c = (
 
 pub loop-done-preserved : goal.loop-done-preserved
 loop-done-preserved c = (
-  doubled c.loop-done.-done c.loop-done.found.bits c.args.wide c.loop-done.found.rest
+  doubled c.loop-done._done c.loop-done.found.bits c.args.wide c.loop-done.found.rest
       c.args.dividend c.step-found.result.bits c.step-found.result.rest c.loop-done.invariant.0
       c.step-found.ensures.sum,
   c.step-found.ensures.less,
@@ -26,7 +26,7 @@ loop-done-preserved c = (
 pub returns : goal.returns
 returns c =
     let whole =
-    complete c.loop-done.-done c.loop-done.found.bits c.args.wide c.loop-done.found.rest
+    complete c.loop-done._done c.loop-done.found.bits c.args.wide c.loop-done.found.rest
     c.args.dividend (omega arith) (omega arith) c.loop-done.invariant.0 in
     record {
       sum = whole;

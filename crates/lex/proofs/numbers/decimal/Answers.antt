@@ -19,5 +19,5 @@ returns-in-err-number c =
 
 pub returns : goal.returns
 returns c =
-    let h = c.in-ok-number.ensures in
-    decimal_of c.args.word.now c.in-ok-number.field-0 c.if-word-gt3.false (c.unpadded.ensures.0 c.if-not-unpadded.false) h.1 h.0
+    let h = c.in_ok-number.ensures in
+    decimal_of c.args.word.now c.in_ok-number.field-0 c.if-word-gt3.false (c.unpadded.ensures.0 c.if-not-unpadded.false) h.1 h.0

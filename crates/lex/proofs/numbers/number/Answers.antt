@@ -30,9 +30,9 @@ overflow-add-value c =
 
 pub loop-byte-preserved : goal.loop-byte-preserved
 loop-byte-preserved c =
-    let h = c.in-ok-value.ensures in (
-      value_push c.args.base c.loop-byte.byte-index c.loop-byte.value c.in-ok-value.field-0 c.loop-byte.invariant.0 h.0,
-      word_push c.args.base c.loop-byte.byte-index c.loop-byte.value c.in-ok-value.field-0 c.args.word.now c.loop-byte-test.true h.0 h.1 c.loop-byte.invariant.1,
+    let h = c.in_ok-value.ensures in (
+      value_push c.args.base c.loop-byte.byte-index c.loop-byte.value c.in_ok-value.field-0 c.loop-byte.invariant.0 h.0,
+      word_push c.args.base c.loop-byte.byte-index c.loop-byte.value c.in_ok-value.field-0 c.args.word.now c.loop-byte-test.true h.0 h.1 c.loop-byte.invariant.1,
     )
 
 pub returns : goal.returns

@@ -13,6 +13,6 @@ returns-in-err-strip-prefix c =
 
 pub returns : goal.returns
 returns c =
-    within c.args.text.now c.args.head.now c.in-ok-strip-prefix.field-0.now c.strip-suffix.result
-    (strip_prefix_is Decides-eqb c.args.text.now c.args.head.now (Some c.in-ok-strip-prefix.field-0) c.in-ok-strip-prefix.ensures.cases)
-    (strip_suffix_is Decides-eqb c.in-ok-strip-prefix.field-0.now (41 ∷ []) c.strip-suffix.result c.strip-suffix.ensures.cases)
+    within c.args.text.now c.args.head.now c.in_ok-strip_prefix.field-0.now c.strip_suffix.result
+    (strip_prefix_is Decides-eqb c.args.text.now c.args.head.now (Some c.in_ok-strip_prefix.field-0) c.in_ok-strip_prefix.ensures.cases)
+    (strip_suffix_is Decides-eqb c.in_ok-strip_prefix.field-0.now (41 ∷ []) c.strip_suffix.result c.strip_suffix.ensures.cases)

@@ -29,6 +29,6 @@ returns c =
       topped_some (bits_value xs) t low left c.leading-top.ensures.parts (omega arith),
       omega arith,
       asks (bits_value xs) c.args.count d k c.doubled-whole.result.number (64 + left - times) (low * 2 ^ 64) c.doubled-scaled.ensures.is c.doubled-scaled.ensures.reached (omega (arith, c.doubled-scaled.ensures.below (omega arith))) top c.doubled-whole.ensures.reached below,
-      subst (λ (e : ℕ). Scales 64 (bits_value xs) c.args.count d c.doubled-whole.result.number e c.any-below.result) x (scales (bits_value xs) c.args.count d k c.doubled-whole.result.number (64 + left - times) low c.any-below.result c.doubled-scaled.ensures.is (omega (arith, c.doubled-scaled.ensures.reached)) top c.any-below.ensures),
+      subst (λ (e : ℕ). Scales 64 (bits_value xs) c.args.count d c.doubled-whole.result.number e c.any_below.result) x (scales (bits_value xs) c.args.count d k c.doubled-whole.result.number (64 + left - times) low c.any_below.result c.doubled-scaled.ensures.is (omega (arith, c.doubled-scaled.ensures.reached)) top c.any_below.ensures),
       omega (arith, c.leading-top.ensures.within, c.doubled-scaled.ensures.few),
     )
