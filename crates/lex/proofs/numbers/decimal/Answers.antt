@@ -13,9 +13,9 @@ returns-then-word-gt3 c =
       | then-word-gt3-via-else-word-gt3+then-not-unpadded w ↦ not_from_Decides w.unpadded.result w.unpadded.ensures w.if-not-unpadded.true (word_of _ n good e).bare
     ]
 
-pub returns-in-err-number : goal.returns-in-err-number
-returns-in-err-number c =
-    rw c.from-residual.ensures (λ n good e. c.in-err-number.ensures n (word_of _ n good e).below (word_of _ n good e).spelt)
+pub returns-in_err-number : goal.returns-in_err-number
+returns-in_err-number c =
+    rw c.from_residual.ensures (λ n good e. c.in_err-number.ensures n (word_of _ n good e).below (word_of _ n good e).spelt)
 
 pub returns : goal.returns
 returns c =

@@ -10,22 +10,22 @@ pub loop-byte-init : goal.loop-byte-init
 unfolding digits
 loop-byte-init c = (rw pow-zero (omega arith), refl)
 
-pub overflow-mul-value : goal.overflow-mul-value
-overflow-mul-value c =
+pub overflow_mul-value : goal.overflow_mul-value
+overflow_mul-value c =
     let h = value_push c.args.base c.loop-byte.byte-index c.loop-byte.value 0 c.loop-byte.invariant.0 (omega arith) in
     omega (arith, eight_digits c.args.base (c.loop-byte.byte-index + 1) (omega arith) (omega arith))
 
-pub returns-in-err-value : goal.returns-in-err-value
-returns-in-err-value c =
-    rw c.from-residual.ensures (
+pub returns-in_err-value : goal.returns-in_err-value
+returns-in_err-value c =
+    rw c.from_residual.ensures (
     λ n good e.
     let d = digit_at c.args.base (length c.args.word.now) n c.loop-byte.byte-index (omega arith) c.loop-byte-test.true in
-    c.in-err-value.ensures d.0 d.1 (ap (λ (s : List ℕ). get_or s c.loop-byte.byte-index 0) e ∙ d.2)
+    c.in_err-value.ensures d.0 d.1 (ap (λ (s : List ℕ). get_or s c.loop-byte.byte-index 0) e ∙ d.2)
     )
 
-pub overflow-add-value : goal.overflow-add-value
-overflow-add-value c =
-    let h = value_push c.args.base c.loop-byte.byte-index c.loop-byte.value c.in-ok-value.field-0 c.loop-byte.invariant.0 c.in-ok-value.ensures.0 in
+pub overflow_add-value : goal.overflow_add-value
+overflow_add-value c =
+    let h = value_push c.args.base c.loop-byte.byte-index c.loop-byte.value c.in_ok-value.field-0 c.loop-byte.invariant.0 c.in_ok-value.ensures.0 in
     omega (arith, eight_digits c.args.base (c.loop-byte.byte-index + 1) (omega arith) (omega arith))
 
 pub loop-byte-preserved : goal.loop-byte-preserved

@@ -5,10 +5,10 @@ use Rattle.lex.proofs.parts.inside.Goals as goal
 use Rattle.std.proofs.lemmas.Slice.Eq.{strip_prefix_is, strip_suffix_is}
 use Rattle.std.proofs.lemmas.Bool.Decides.{Decides-eqb}
 
-pub returns-in-err-strip-prefix : goal.returns-in-err-strip-prefix
-returns-in-err-strip-prefix c =
-    rw c.from-residual.ensures (
-    λ x good e. strip_prefix_is c.args.text.now c.args.head.now None c.in-err-strip-prefix.ensures.cases (x ++ 41 ∷ []) e
+pub returns-in_err-strip_prefix : goal.returns-in_err-strip_prefix
+returns-in_err-strip_prefix c =
+    rw c.from_residual.ensures (
+    λ x good e. strip_prefix_is c.args.text.now c.args.head.now None c.in_err-strip_prefix.ensures.cases (x ++ 41 ∷ []) e
     )
 
 pub returns : goal.returns

@@ -2,23 +2,23 @@ use Rattle.std.proofs.Common.{◌≡◌, ℕ, ◌+◌, ◌-◌, ◌<◌, sym, �
 use Rattle.rounding.proofs.Truncations.{near_split, near_like, placed}
 use Rattle.rounding.proofs.round.split_at_place.Goals as goal
 
-pub overflow-cast-result : goal.overflow-cast-result
-overflow-cast-result c =
-    let p = placed c.quotient-quotient.result c.scale-scale.result c.length.result c.saturating-sub-at.result c.cut-before-tail.result.kept c.cut-before-tail.result.half c.cut-before-tail.result.more c.length.ensures.within.0 c.length.ensures.bits.0 c.length.ensures.bits.1 c.saturating-sub-at.ensures c.cut-before-tail.ensures in
+pub overflow_cast-result : goal.overflow_cast-result
+overflow_cast-result c =
+    let p = placed c.quotient-quotient.result c.scale-scale.result c.length.result c.saturating_sub-at.result c.cut_before-tail.result.kept c.cut_before-tail.result.half c.cut_before-tail.result.more c.length.ensures.within.0 c.length.ensures.bits.0 c.length.ensures.bits.1 c.saturating_sub-at.ensures c.cut_before-tail.ensures in
     omega (arith, p.0)
 
 pub returns : goal.returns
 returns c =
     let q : ℕ = c.quotient-quotient.result in
     let x : ℕ = c.scale-scale.result in
-    let at : ℕ = c.saturating-sub-at.result in
-    let t = c.cut-before-tail.result in
-    let p = placed q x c.length.result at t.kept t.half t.more c.length.ensures.within.0 c.length.ensures.bits.0 c.length.ensures.bits.1 c.saturating-sub-at.ensures c.cut-before-tail.ensures in
+    let at : ℕ = c.saturating_sub-at.result in
+    let t = c.cut_before-tail.result in
+    let p = placed q x c.length.result at t.kept t.half t.more c.length.ensures.within.0 c.length.ensures.bits.0 c.length.ensures.bits.1 c.saturating_sub-at.ensures c.cut_before-tail.ensures in
     record {
       within = (omega arith, p.0);
       split =
           λ a b bp near.
           let n = near_like q x c.cut.result c.args.value.quotient c.args.value.scale c.args.value.cut a b c.quotient-quotient.ensures.value c.scale-scale.ensures c.cut.ensures near in
-          let s = near_split 8388608 q x c.cut.result a b at (at + 256 - x - 1) t.kept t.half t.more (lit< tt) bp n c.cut-before-tail.ensures p.2 (omega (arith, p.0)) p.1 in
-          (s.0, s.1, s.2 ∙ sym c.rest-of.ensures);
+          let s = near_split 8388608 q x c.cut.result a b at (at + 256 - x - 1) t.kept t.half t.more (lit< tt) bp n c.cut_before-tail.ensures p.2 (omega (arith, p.0)) p.1 in
+          (s.0, s.1, s.2 ∙ sym c.rest_of.ensures);
     }
