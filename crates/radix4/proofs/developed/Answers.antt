@@ -8,7 +8,7 @@ step-found-requires c = record {
   narrow = c.requires.narrow;
   bounded = c.loop-done.invariant.1;
   short =
-      room c.loop-done.-done c.loop-done.found.quotient c.args.scale.wide c.args.dividend
+      room c.loop-done._done c.loop-done.found.quotient c.args.scale.wide c.args.dividend
       c.loop-done.found.rest (omega arith) c.loop-done.invariant.0 c.loop-done.invariant.1
       c.requires.below;
   owing = c.loop-done.invariant.2;
@@ -16,7 +16,7 @@ step-found-requires c = record {
 
 pub loop-done-preserved : goal.loop-done-preserved
 loop-done-preserved c = (
-  fourfold c.loop-done.-done c.loop-done.found.quotient c.args.scale.wide c.args.dividend
+  fourfold c.loop-done._done c.loop-done.found.quotient c.args.scale.wide c.args.dividend
       c.step-found.result.quotient c.loop-done.found.rest c.step-found.result.rest c.loop-done.invariant.0
       c.step-found.ensures.sum,
   c.step-found.ensures.bounded,
@@ -26,7 +26,7 @@ loop-done-preserved c = (
 pub returns : goal.returns
 returns c =
     let whole =
-    complete c.loop-done.-done c.loop-done.found.quotient c.args.scale.wide c.args.dividend
+    complete c.loop-done._done c.loop-done.found.quotient c.args.scale.wide c.args.dividend
     c.loop-done.found.rest (omega arith) (omega arith) c.loop-done.invariant.0 in
     record {
       sum = whole;

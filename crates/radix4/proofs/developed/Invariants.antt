@@ -8,6 +8,6 @@ use Rattle.radix4.proofs.developed.Given as goal
 -- after i digits the quotient and the rest make up 4^i times the dividend
 abbrev pub invariant-loop-done : goal.invariant-loop-done
 invariant-loop-done l =
-    (pos (l.found.quotient * l.scale.wide) +ℤ l.found.rest ≡ pos (4 ^ l.-done * l.dividend)) ×
+    (pos (l.found.quotient * l.scale.wide) +ℤ l.found.rest ≡ pos (4 ^ l._done * l.dividend)) ×
     Bounded l.scale.wide l.found.rest ×
     (l.found.rest <ℤ pos 0 → 0 < l.found.quotient)

@@ -3,8 +3,8 @@ use Rattle.std.proofs.lemmas.Bool.Decides.{nat_tests}
 use Rattle.cubic.proofs.Newton.{product_above, product_below, product_short}
 use Rattle.cubic.proofs.refinement.product.Goals as goal
 
-pub overflow-cast-result-3 : goal.overflow-cast-result-3
-overflow-cast-result-3 c =
+pub overflow_cast-result-3 : goal.overflow_cast-result-3
+overflow_cast-result-3 c =
     let range : c.args.dividend < 2 ^ 25 * c.args.divisor = grind (arith, nat_tests) in
     record {
       fits =

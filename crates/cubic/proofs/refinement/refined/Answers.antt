@@ -12,20 +12,20 @@ loop-done-init c =
 pub step-found-requires : goal.step-found-requires
 step-found-requires c =
     let m =
-    modest (c.steps-needed.result - c.loop-done.-done) (gap (c.loop-done.found * c.args.divisor) (2 ^ 55))
+    modest (c.steps-needed.result - c.loop-done._done) (gap (c.loop-done.found * c.args.divisor) (2 ^ 55))
     c.loop-done.invariant in
     (omega arith, omega arith)
 
 pub loop-done-preserved : goal.loop-done-preserved
 loop-done-preserved c =
-    let left = c.steps-needed.result - (c.loop-done.-done + 1) in
+    let left = c.steps-needed.result - (c.loop-done._done + 1) in
     let before =
-    moved (c.steps-needed.result - c.loop-done.-done) (suc left)
+    moved (c.steps-needed.result - c.loop-done._done) (suc left)
     (gap (c.loop-done.found * c.args.divisor) (2 ^ 55)) (omega arith) c.loop-done.invariant in
     tighter left c.args.divisor (gap (c.loop-done.found * c.args.divisor) (2 ^ 55))
     (gap (c.step-found.result * c.args.divisor) (2 ^ 55)) (omega arith) before c.step-found.ensures
 
 pub returns : goal.returns
 returns c =
-    moved (c.steps-needed.result - c.loop-done.-done) 0 (gap (c.loop-done.found * c.args.divisor) (2 ^ 55))
+    moved (c.steps-needed.result - c.loop-done._done) 0 (gap (c.loop-done.found * c.args.divisor) (2 ^ 55))
     (omega arith) c.loop-done.invariant

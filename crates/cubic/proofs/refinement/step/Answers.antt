@@ -2,8 +2,8 @@ use Rattle.std.proofs.Common.{◌-◌, ◌*◌, ◌^◌, arith}
 use Rattle.cubic.proofs.Newton.{step_error, step_fits}
 use Rattle.cubic.proofs.refinement.step.Goals as goal
 
-pub overflow-cast-result-3 : goal.overflow-cast-result-3
-overflow-cast-result-3 c =
+pub overflow_cast-result-3 : goal.overflow_cast-result-3
+overflow_cast-result-3 c =
     record {
       fits =
           omega (

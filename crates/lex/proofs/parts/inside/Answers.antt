@@ -8,7 +8,7 @@ use Rattle.std.proofs.lemmas.Bool.Decides.{Decides-eqb}
 pub returns-in_err-strip_prefix : goal.returns-in_err-strip_prefix
 returns-in_err-strip_prefix c =
     rw c.from_residual.ensures (
-    λ x good e. strip_prefix_is c.args.text.now c.args.head.now None c.in_err-strip_prefix.ensures.cases (x ++ 41 ∷ []) e
+    λ x good e. strip_prefix_is Decides-eqb c.args.text.now c.args.head.now None c.in_err-strip_prefix.ensures.cases (x ++ 41 ∷ []) e
     )
 
 pub returns : goal.returns

@@ -16,7 +16,7 @@ pub loop-field-init : goal.loop-field-init
 loop-field-init c =
     let ws : List ℤ = c.args.words.now in (
       carrying_first c.raised-carry.result _ (c.raised-carry.ensures.word ∙ sym (spread_one 1 (lifted ws))),
-      λ k lt. let z : k ≡ 0 = omega arith in subst (λ (n : ℕ). Lifted ws n (lifted ws n)) (sym z) (read ws 0 c.raised-carry.result c.raised-carry.ensures.word c.raised-carry.ok c.raised-carry.ensures.lift),
+      λ k lt. let z : k ≡ 0 = omega arith in subst (λ (n : ℕ). Lifted ws n (lifted ws n)) (sym z) (read ws 0 c.raised-carry.result c.raised-carry.ensures.word (omega arith) c.raised-carry.ensures.lift),
     )
 
 pub loop-field-preserved : goal.loop-field-preserved
@@ -27,7 +27,7 @@ loop-field-preserved c =
     let one = carrying_more c.loop-field.digits f c.loop-field.carry (spread 1 (lifted ws) (f + 1)) c.carried-next.result.digit c.carried-next.result.carry (lifted ws (f + 1)) c.loop-field.invariant.0 (omega arith) next in
     let e : 1 * f ≡ f = omega arith in (
       carrying_at _ c.carried-next.result.carry (omega arith) (sym (rw e at (spread_more 1 (lifted ws) f))) one,
-      below_more (λ (k : ℕ). Lifted ws k (lifted ws k)) (f + 1) c.loop-field.invariant.1 (read ws (f + 1) c.raised.result c.raised.ensures.word c.raised.ok c.raised.ensures.lift),
+      below_more (λ (k : ℕ). Lifted ws k (lifted ws k)) (f + 1) c.loop-field.invariant.1 (read ws (f + 1) c.raised.result c.raised.ensures.word (omega arith) c.raised.ensures.lift),
     )
 
 pub returns : goal.returns
