@@ -102,8 +102,8 @@ fn rounded_quotient<E: Engine, R: Rule>(
     divisor: Encoding,
 ) -> Answer
     requires { asks binary32 dividend.bits divisor.bits ≡ true }
-    ensures answer { Gives result (quotient binary32 (meaning rule.now) dividend.bits divisor.bits) }
-    ensures after { logged engine.new ≡ counted (logged engine.old) (asked_divisor binary32 divisor.bits) (asked_dividend binary32 dividend.bits divisor.bits) }
+    ensures answer { Gives result (quotient binary32 (R.meaning rule.now) dividend.bits divisor.bits) }
+    ensures after { E.logged engine.new ≡ counted (E.logged engine.old) (asked_divisor binary32 divisor.bits) (asked_dividend binary32 dividend.bits divisor.bits) }
 {
     let pair = pair_for(scale_up(dividend), scale_up(divisor));
     let quotient = whole_quotient(engine, pair.divisor, pair.dividend) as u64;
@@ -121,8 +121,8 @@ fn divide<E: Engine, R: Rule>(
     dividend: Encoding,
     divisor: Encoding,
 ) -> Answer
-    ensures answer { Gives result (quotient binary32 (meaning rule.now) dividend.bits divisor.bits) }
-    ensures asked { logged engine.new ≡ quotient_log binary32 (logged engine.old) dividend.bits divisor.bits }
+    ensures answer { Gives result (quotient binary32 (R.meaning rule.now) dividend.bits divisor.bits) }
+    ensures asked { E.logged engine.new ≡ quotient_log binary32 (E.logged engine.old) dividend.bits divisor.bits }
 {
     match special_quotient(dividend, divisor) {
         Some(answer) => answer,
@@ -138,9 +138,9 @@ pub fn quotient<E: Engine, R: Rule>(
     dividend: Encoding,
     divisor: Encoding,
 ) -> Answer
-    ensures answer { Gives result (quotient binary32 (meaning rule.now) dividend.bits divisor.bits) }
+    ensures answer { Gives result (quotient binary32 (R.meaning rule.now) dividend.bits divisor.bits) }
     ensures gathered { standing.new.raised.number ≡ bit_or standing.old.raised.number result.flags.number }
-    ensures asked { logged engine.new ≡ quotient_log binary32 (logged engine.old) dividend.bits divisor.bits }
+    ensures asked { E.logged engine.new ≡ quotient_log binary32 (E.logged engine.old) dividend.bits divisor.bits }
 {
     let answer = divide(engine, rule, dividend, divisor);
     standing.raise(answer.flags);

@@ -15,7 +15,7 @@ use rounding::truncated::Truncated;
 // The square of a number other than zero: the product of its 24 bits with themselves is exact.
 fn rounded_square<R: Rule>(rule: &R, operand: Encoding) -> Answer
     requires { (is_finite binary32 operand.bits ≡ true) × (is_zero binary32 operand.bits ≡ false) }
-    ensures { Gives result (square binary32 (meaning rule.now) operand.bits) }
+    ensures { Gives result (square binary32 (R.meaning rule.now) operand.bits) }
 {
     let number = scale_up(operand);
     let product = number.bits as u64 * number.bits as u64;
@@ -27,7 +27,7 @@ fn rounded_square<R: Rule>(rule: &R, operand: Encoding) -> Answer
 
 // The square, before its flags are gathered.
 fn multiply<R: Rule>(rule: &R, operand: Encoding) -> Answer
-    ensures { Gives result (square binary32 (meaning rule.now) operand.bits) }
+    ensures { Gives result (square binary32 (R.meaning rule.now) operand.bits) }
 {
     match class_of(operand) {
         Class::Nan => Answer {
@@ -48,7 +48,7 @@ fn multiply<R: Rule>(rule: &R, operand: Encoding) -> Answer
 
 // The square under a rule; the flags that it raises are gathered too.
 pub fn square<R: Rule>(rule: &R, standing: &mut StandingFlags, operand: Encoding) -> Answer
-    ensures answer { Gives result (square binary32 (meaning rule.now) operand.bits) }
+    ensures answer { Gives result (square binary32 (R.meaning rule.now) operand.bits) }
     ensures gathered { standing.new.raised.number ≡ bit_or standing.old.raised.number result.flags.number }
 {
     let answer = multiply(rule, operand);

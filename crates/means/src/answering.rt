@@ -29,8 +29,8 @@ fn cut_off(quotient: u32, asked: Asked) -> bool
 
 // The whole quotient stands for s / (n * 2^u); it may be exact and the value not, where digits of s were cut off.
 fn divide_sum<E: Engine, R: Rule>(engine: &mut E, rule: &R, negative: bool, asked: Asked) -> Answer
-    ensures answer { (s n u : ℕ) → 0 < n → Scales 256 (s * 2 ^ 149) (n * 2 ^ u) asked.divisor asked.dividend asked.scale asked.more → Gives result (rounded binary32 (meaning rule.now) (record { negative = negative; num = s; den = n * 2 ^ u })) }
-    ensures after { logged engine.new ≡ counted (logged engine.old) asked.divisor asked.dividend }
+    ensures answer { (s n u : ℕ) → 0 < n → Scales 256 (s * 2 ^ 149) (n * 2 ^ u) asked.divisor asked.dividend asked.scale asked.more → Gives result (rounded binary32 (R.meaning rule.now) (record { negative = negative; num = s; den = n * 2 ^ u })) }
+    ensures after { E.logged engine.new ≡ counted (E.logged engine.old) asked.divisor asked.dividend }
 {
     let quotient = whole_quotient(engine, asked.divisor(), asked.dividend());
     let cut = cut_off(quotient, asked);
@@ -41,8 +41,8 @@ fn divide_sum<E: Engine, R: Rule>(engine: &mut E, rule: &R, negative: bool, aske
 }
 
 pub fn answer_ask<E: Engine, R: Rule>(engine: &mut E, rule: &R, ask: Ask) -> Answer
-    ensures answer { (sign : Bool) (s n u : ℕ) → 0 < n → (s ≡ 0 → sign ≡ false) → Due sign s n u ask → Gives result (rounded binary32 (meaning rule.now) (record { negative = sign; num = s; den = n * 2 ^ u })) }
-    ensures after { (sign : Bool) (s n u : ℕ) → 0 < n → n < 16777216 → Due sign s n u ask → logged engine.new ≡ sum_log (logged engine.old) s n }
+    ensures answer { (sign : Bool) (s n u : ℕ) → 0 < n → (s ≡ 0 → sign ≡ false) → Due sign s n u ask → Gives result (rounded binary32 (R.meaning rule.now) (record { negative = sign; num = s; den = n * 2 ^ u })) }
+    ensures after { (sign : Bool) (s n u : ℕ) → 0 < n → n < 16777216 → Due sign s n u ask → E.logged engine.new ≡ sum_log (E.logged engine.old) s n }
 {
     match ask {
         Ask::Nothing => Answer {

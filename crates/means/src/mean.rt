@@ -19,9 +19,9 @@ pub fn mean<E: Engine, R: Rule>(
     rule: &R,
     flags: &mut StandingFlags,
 ) -> Result<Answer, WindowFault>
-    ensures result { MatchResult result (λ a. (0 < length (standing window.now)) × Gives a (mean (meaning rule.now) (standing window.now))) (λ fault. (length (standing window.now) ≡ 0) × (fault ≡ WindowFault.Empty)) }
+    ensures result { MatchResult result (λ a. (0 < length (standing window.now)) × Gives a (mean (R.meaning rule.now) (standing window.now))) (λ fault. (length (standing window.now) ≡ 0) × (fault ≡ WindowFault.Empty)) }
     ensures gathered { MatchResult result (λ a. flags.new.raised.number ≡ bit_or flags.old.raised.number a.flags.number) (λ _. flags.new ≡ flags.old) }
-    ensures asked { logged engine.new ≡ mean_log (logged engine.old) (standing window.now) }
+    ensures asked { E.logged engine.new ≡ mean_log (E.logged engine.old) (standing window.now) }
     ensures untouched { OnErr result (engine.new ≡ engine.old) }
 {
     let answer = answer_ask(engine, rule, window.mean_ask()?);
@@ -36,9 +36,9 @@ pub fn mean_square<E: Engine, R: Rule>(
     rule: &R,
     flags: &mut StandingFlags,
 ) -> Result<Answer, WindowFault>
-    ensures result { MatchResult result (λ a. (0 < length (standing window.now)) × Gives a (mean_square (meaning rule.now) (standing window.now))) (λ fault. (length (standing window.now) ≡ 0) × (fault ≡ WindowFault.Empty)) }
+    ensures result { MatchResult result (λ a. (0 < length (standing window.now)) × Gives a (mean_square (R.meaning rule.now) (standing window.now))) (λ fault. (length (standing window.now) ≡ 0) × (fault ≡ WindowFault.Empty)) }
     ensures gathered { MatchResult result (λ a. flags.new.raised.number ≡ bit_or flags.old.raised.number a.flags.number) (λ _. flags.new ≡ flags.old) }
-    ensures asked { logged engine.new ≡ mean_square_log (logged engine.old) (standing window.now) }
+    ensures asked { E.logged engine.new ≡ mean_square_log (E.logged engine.old) (standing window.now) }
     ensures untouched { OnErr result (engine.new ≡ engine.old) }
 {
     let answer = answer_ask(engine, rule, window.mean_square_ask()?);

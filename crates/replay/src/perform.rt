@@ -16,7 +16,7 @@ use rounding::encoding::Encoding;
 use rounding::rule::Rule;
 
 fn begin<E: Engine, R: Rule>(meter: &mut Meter<E, R>) -> Told
-    ensures told { result ≡ told (meaning meter.old.rule) (model meter.old) calls.Poll }
+    ensures told { result ≡ told (R.meaning meter.old.rule) (model meter.old) calls.Poll }
     ensures after { model meter.new ≡ after (model meter.old) calls.Poll }
     ensures engine { meter.new.engine ≡ meter.old.engine }
     ensures rule { meter.new.rule ≡ meter.old.rule }
@@ -28,7 +28,7 @@ fn begin<E: Engine, R: Rule>(meter: &mut Meter<E, R>) -> Told
 }
 
 fn repeat<E: Engine, R: Rule>(meter: &mut Meter<E, R>, named: NamedPoll) -> Told
-    ensures told { result ≡ told (meaning meter.old.rule) (model meter.old) (calls.Repeat named) }
+    ensures told { result ≡ told (R.meaning meter.old.rule) (model meter.old) (calls.Repeat named) }
     ensures after { model meter.new ≡ after (model meter.old) (calls.Repeat named) }
     ensures engine { meter.new.engine ≡ meter.old.engine }
     ensures rule { meter.new.rule ≡ meter.old.rule }
@@ -43,7 +43,7 @@ fn repeat<E: Engine, R: Rule>(meter: &mut Meter<E, R>, named: NamedPoll) -> Told
 }
 
 fn reply<E: Engine, R: Rule>(meter: &mut Meter<E, R>, named: NamedPoll, encoding: Encoding) -> Told
-    ensures told { result ≡ told (meaning meter.old.rule) (model meter.old) (calls.Reply named encoding) }
+    ensures told { result ≡ told (R.meaning meter.old.rule) (model meter.old) (calls.Reply named encoding) }
     ensures after { model meter.new ≡ after (model meter.old) (calls.Reply named encoding) }
     ensures engine { meter.new.engine ≡ meter.old.engine }
     ensures rule { meter.new.rule ≡ meter.old.rule }
@@ -58,7 +58,7 @@ fn reply<E: Engine, R: Rule>(meter: &mut Meter<E, R>, named: NamedPoll, encoding
 }
 
 fn lapse<E: Engine, R: Rule>(meter: &mut Meter<E, R>, named: NamedPoll) -> Told
-    ensures told { result ≡ told (meaning meter.old.rule) (model meter.old) (calls.Lapse named) }
+    ensures told { result ≡ told (R.meaning meter.old.rule) (model meter.old) (calls.Lapse named) }
     ensures after { model meter.new ≡ after (model meter.old) (calls.Lapse named) }
     ensures engine { meter.new.engine ≡ meter.old.engine }
     ensures rule { meter.new.rule ≡ meter.old.rule }
@@ -70,7 +70,7 @@ fn lapse<E: Engine, R: Rule>(meter: &mut Meter<E, R>, named: NamedPoll) -> Told
 }
 
 fn retire<E: Engine, R: Rule>(meter: &mut Meter<E, R>) -> Told
-    ensures told { result ≡ told (meaning meter.old.rule) (model meter.old) calls.Retire }
+    ensures told { result ≡ told (R.meaning meter.old.rule) (model meter.old) calls.Retire }
     ensures after { model meter.new ≡ after (model meter.old) calls.Retire }
     ensures engine { meter.new.engine ≡ meter.old.engine }
     ensures rule { meter.new.rule ≡ meter.old.rule }
@@ -82,7 +82,7 @@ fn retire<E: Engine, R: Rule>(meter: &mut Meter<E, R>) -> Told
 }
 
 fn retract<E: Engine, R: Rule>(meter: &mut Meter<E, R>) -> Told
-    ensures told { result ≡ told (meaning meter.old.rule) (model meter.old) calls.Retract }
+    ensures told { result ≡ told (R.meaning meter.old.rule) (model meter.old) calls.Retract }
     ensures after { model meter.new ≡ after (model meter.old) calls.Retract }
     ensures engine { meter.new.engine ≡ meter.old.engine }
     ensures rule { meter.new.rule ≡ meter.old.rule }
@@ -99,9 +99,9 @@ fn quotient<E: Engine, R: Rule>(
     dividend: Encoding,
     divisor: Encoding,
 ) -> Told
-    ensures told { result ≡ told (meaning meter.old.rule) (model meter.old) (calls.Quotient dividend divisor) }
+    ensures told { result ≡ told (R.meaning meter.old.rule) (model meter.old) (calls.Quotient dividend divisor) }
     ensures after { model meter.new ≡ after (model meter.old) (calls.Quotient dividend divisor) }
-    ensures engine { logged meter.new.engine ≡ asked (logged meter.old.engine) (model meter.old) (calls.Quotient dividend divisor) }
+    ensures engine { E.logged meter.new.engine ≡ asked (E.logged meter.old.engine) (model meter.old) (calls.Quotient dividend divisor) }
     ensures rule { meter.new.rule ≡ meter.old.rule }
 {
     Told::Number(meter.quotient(flags, dividend, divisor))
@@ -112,7 +112,7 @@ fn square<E: Engine, R: Rule>(
     flags: &mut StandingFlags,
     operand: Encoding,
 ) -> Told
-    ensures told { result ≡ told (meaning meter.old.rule) (model meter.old) (calls.Square operand) }
+    ensures told { result ≡ told (R.meaning meter.old.rule) (model meter.old) (calls.Square operand) }
     ensures after { model meter.new ≡ after (model meter.old) (calls.Square operand) }
     ensures engine { meter.new.engine ≡ meter.old.engine }
     ensures rule { meter.new.rule ≡ meter.old.rule }
@@ -121,9 +121,9 @@ fn square<E: Engine, R: Rule>(
 }
 
 fn mean<E: Engine, R: Rule>(meter: &mut Meter<E, R>, flags: &mut StandingFlags) -> Told
-    ensures told { result ≡ told (meaning meter.old.rule) (model meter.old) calls.Mean }
+    ensures told { result ≡ told (R.meaning meter.old.rule) (model meter.old) calls.Mean }
     ensures after { model meter.new ≡ after (model meter.old) calls.Mean }
-    ensures engine { logged meter.new.engine ≡ asked (logged meter.old.engine) (model meter.old) calls.Mean }
+    ensures engine { E.logged meter.new.engine ≡ asked (E.logged meter.old.engine) (model meter.old) calls.Mean }
     ensures rule { meter.new.rule ≡ meter.old.rule }
 {
     match meter.mean(flags) {
@@ -133,9 +133,9 @@ fn mean<E: Engine, R: Rule>(meter: &mut Meter<E, R>, flags: &mut StandingFlags) 
 }
 
 fn mean_square<E: Engine, R: Rule>(meter: &mut Meter<E, R>, flags: &mut StandingFlags) -> Told
-    ensures told { result ≡ told (meaning meter.old.rule) (model meter.old) calls.MeanSquare }
+    ensures told { result ≡ told (R.meaning meter.old.rule) (model meter.old) calls.MeanSquare }
     ensures after { model meter.new ≡ after (model meter.old) calls.MeanSquare }
-    ensures engine { logged meter.new.engine ≡ asked (logged meter.old.engine) (model meter.old) calls.MeanSquare }
+    ensures engine { E.logged meter.new.engine ≡ asked (E.logged meter.old.engine) (model meter.old) calls.MeanSquare }
     ensures rule { meter.new.rule ≡ meter.old.rule }
 {
     match meter.mean_square(flags) {
@@ -150,9 +150,9 @@ pub fn perform<E: Engine, R: Rule>(
     flags: &mut StandingFlags,
     call: Call,
 ) -> Told
-    ensures told { result ≡ told (meaning meter.old.rule) (model meter.old) call }
+    ensures told { result ≡ told (R.meaning meter.old.rule) (model meter.old) call }
     ensures after { model meter.new ≡ after (model meter.old) call }
-    ensures engine { logged meter.new.engine ≡ asked (logged meter.old.engine) (model meter.old) call }
+    ensures engine { E.logged meter.new.engine ≡ asked (E.logged meter.old.engine) (model meter.old) call }
     ensures rule { meter.new.rule ≡ meter.old.rule }
 {
     match call {

@@ -16,8 +16,8 @@ use rounding::rule::Rule;
 
 // Performs as many calls as there is room for.
 fn perform_all<E: Engine, R: Rule>(meter: &mut Meter<E, R>, calls: &[Call], steps: &mut [Step])
-    ensures written { Written (meaning meter.old.rule) (logged meter.old.engine) (model meter.old) calls.now steps.old steps.new }
-    ensures engine { logged meter.new.engine ≡ asks_of (logged meter.old.engine) (model meter.old) (take (min (length calls.now) (length steps.old)) calls.now) }
+    ensures written { Written (R.meaning meter.old.rule) (E.logged meter.old.engine) (model meter.old) calls.now steps.old steps.new }
+    ensures engine { E.logged meter.new.engine ≡ asks_of (E.logged meter.old.engine) (model meter.old) (take (min (length calls.now) (length steps.old)) calls.now) }
 {
     let mut flags = StandingFlags::new();
     let count = calls.len().min(steps.len());
@@ -34,8 +34,8 @@ fn run<E: Engine, R: Rule + Drop>(
     calls: &[Call],
     steps: &mut [Step],
 ) -> E
-    ensures written { Written (meaning rule) (logged engine) (fresh address.number) calls.now steps.old steps.new }
-    ensures engine { logged result ≡ asks_of (logged engine) (fresh address.number) (take (min (length calls.now) (length steps.old)) calls.now) }
+    ensures written { Written (R.meaning rule) (E.logged engine) (fresh address.number) calls.now steps.old steps.new }
+    ensures engine { E.logged result ≡ asks_of (E.logged engine) (fresh address.number) (take (min (length calls.now) (length steps.old)) calls.now) }
 {
     let mut meter = Meter::new(address, engine, rule);
     perform_all(&mut meter, calls, steps);

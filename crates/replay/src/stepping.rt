@@ -34,9 +34,9 @@ pub fn step<E: Engine, R: Rule>(
     flags: &mut StandingFlags,
     call: Call,
 ) -> Step
-    ensures right { Right (meaning meter.old.rule) (logged meter.old.engine) (model meter.old) call result }
+    ensures right { Right (R.meaning meter.old.rule) (E.logged meter.old.engine) (model meter.old) call result }
     ensures after { model meter.new ≡ after (model meter.old) call }
-    ensures engine { logged meter.new.engine ≡ asked (logged meter.old.engine) (model meter.old) call }
+    ensures engine { E.logged meter.new.engine ≡ asked (E.logged meter.old.engine) (model meter.old) call }
     ensures rule { meter.new.rule ≡ meter.old.rule }
 {
     let told = perform(meter, flags, call);

@@ -7,4 +7,4 @@ pub returns-then-line-gt-LONGEST : goal.returns-then-line-gt-LONGEST
 returns-then-line-gt-LONGEST c = record { reads = λ f good e. omega (arith, ap length e, good.1); one = one_form }
 
 pub returns-else-line-gt-LONGEST : goal.returns-else-line-gt-LONGEST
-returns-else-line-gt-LONGEST c = record { reads = c.read-short.ensures; one = one_form }
+returns-else-line-gt-LONGEST c = record { reads = c.read_short.ensures; one = one_form }

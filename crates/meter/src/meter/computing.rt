@@ -37,7 +37,7 @@ impl<E: Engine, R: Drop> Meter<E, R> {
 impl<E: Engine, R: Rule> Meter<E, R> {
     // The engine's meaning.
     pub fn log(&self) -> Log
-        ensures { result ≡ logged self.now.engine }
+        ensures { result ≡ E.logged self.now.engine }
     {
         self.engine.log()
     }
@@ -48,17 +48,17 @@ impl<E: Engine, R: Rule> Meter<E, R> {
         dividend: Encoding,
         divisor: Encoding,
     ) -> Answer
-        ensures answer { Gives result (quotient binary32 (meaning self.old.rule) dividend.bits divisor.bits) }
+        ensures answer { Gives result (quotient binary32 (R.meaning self.old.rule) dividend.bits divisor.bits) }
         ensures gathered { flags.new.raised.number ≡ bit_or flags.old.raised.number result.flags.number }
         ensures after { model self.new ≡ model self.old }
-        ensures engine { logged self.new.engine ≡ quotient_log binary32 (logged self.old.engine) dividend.bits divisor.bits }
+        ensures engine { E.logged self.new.engine ≡ quotient_log binary32 (E.logged self.old.engine) dividend.bits divisor.bits }
         ensures rule { self.new.rule ≡ self.old.rule }
     {
         quotient(&mut self.engine, &self.rule, flags, dividend, divisor)
     }
 
     pub fn square(&mut self, flags: &mut StandingFlags, operand: Encoding) -> Answer
-        ensures answer { Gives result (square binary32 (meaning self.old.rule) operand.bits) }
+        ensures answer { Gives result (square binary32 (R.meaning self.old.rule) operand.bits) }
         ensures gathered { flags.new.raised.number ≡ bit_or flags.old.raised.number result.flags.number }
         ensures after { model self.new ≡ model self.old }
         ensures engine { self.new.engine ≡ self.old.engine }
@@ -69,10 +69,10 @@ impl<E: Engine, R: Rule> Meter<E, R> {
 
     // The exact mean of the standing replies, rounded once.
     pub fn mean(&mut self, flags: &mut StandingFlags) -> Result<Answer, MeterFault>
-        ensures result { MatchResult result (λ a. (refuses_empty (model self.old) ≡ None) × Gives a (mean (meaning self.old.rule) (model self.old).replies)) (λ fault. refuses_empty (model self.old) ≡ Some (number fault)) }
+        ensures result { MatchResult result (λ a. (refuses_empty (model self.old) ≡ None) × Gives a (mean (R.meaning self.old.rule) (model self.old).replies)) (λ fault. refuses_empty (model self.old) ≡ Some (number fault)) }
         ensures gathered { MatchResult result (λ a. flags.new.raised.number ≡ bit_or flags.old.raised.number a.flags.number) (λ _. flags.new ≡ flags.old) }
         ensures after { model self.new ≡ model self.old }
-        ensures engine { logged self.new.engine ≡ mean_log (logged self.old.engine) (model self.old).replies }
+        ensures engine { E.logged self.new.engine ≡ mean_log (E.logged self.old.engine) (model self.old).replies }
         ensures untouched { OnErr result (self.new.engine ≡ self.old.engine) }
         ensures rule { self.new.rule ≡ self.old.rule }
     {
@@ -81,10 +81,10 @@ impl<E: Engine, R: Rule> Meter<E, R> {
 
     // The exact mean of their squares, rounded once.
     pub fn mean_square(&mut self, flags: &mut StandingFlags) -> Result<Answer, MeterFault>
-        ensures result { MatchResult result (λ a. (refuses_empty (model self.old) ≡ None) × Gives a (mean_square (meaning self.old.rule) (model self.old).replies)) (λ fault. refuses_empty (model self.old) ≡ Some (number fault)) }
+        ensures result { MatchResult result (λ a. (refuses_empty (model self.old) ≡ None) × Gives a (mean_square (R.meaning self.old.rule) (model self.old).replies)) (λ fault. refuses_empty (model self.old) ≡ Some (number fault)) }
         ensures gathered { MatchResult result (λ a. flags.new.raised.number ≡ bit_or flags.old.raised.number a.flags.number) (λ _. flags.new ≡ flags.old) }
         ensures after { model self.new ≡ model self.old }
-        ensures engine { logged self.new.engine ≡ mean_square_log (logged self.old.engine) (model self.old).replies }
+        ensures engine { E.logged self.new.engine ≡ mean_square_log (E.logged self.old.engine) (model self.old).replies }
         ensures untouched { OnErr result (self.new.engine ≡ self.old.engine) }
         ensures rule { self.new.rule ≡ self.old.rule }
     {

@@ -1,5 +1,5 @@
 -- Each call has a number with a digit less.
 use Rattle.answers.proofs.laying.+put_decimal.Given as goal
 
-abbrev pub decreases-put-decimal : goal.decreases-put-decimal
-decreases-put-decimal l = l.n
+abbrev pub decreases-put_decimal : goal.decreases-put_decimal
+decreases-put_decimal l = l.n

@@ -12,5 +12,5 @@ returns-then-count-eq0 t c = record {
 pub returns : goal.returns
 returns t c = record {
   end = omega (arith, c.put.ensures.ends);
-  after = digits_last c.args.at c.args.count c.args.n c.put-hexadecimal-last.result _ _ _ _ _ c.if-count-eq0.false (omega arith) c.glyph.ensures c.put-hexadecimal-last.ensures.after c.put.ensures;
+  after = digits_last c.args.at c.args.count c.args.n c.put_hexadecimal-last.result _ _ _ _ _ c.if-count-eq0.false (omega arith) c.glyph.ensures c.put_hexadecimal-last.ensures.after c.put.ensures;
 }

@@ -1,5 +1,5 @@
 -- Each call has a digit less to lay.
 use Rattle.answers.proofs.laying.+put_hexadecimal.Given as goal
 
-abbrev pub decreases-put-hexadecimal : goal.decreases-put-hexadecimal
-decreases-put-hexadecimal l = l.count
+abbrev pub decreases-put_hexadecimal : goal.decreases-put_hexadecimal
+decreases-put_hexadecimal l = l.count

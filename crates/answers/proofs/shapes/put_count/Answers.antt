@@ -5,5 +5,5 @@ use Rattle.answers.proofs.shapes.put_count.Goals as goal
 
 pub returns : goal.returns
 returns c =
-    let all = laid_group _ _ _ _ _ c.args.out.now _ _ _ (omega arith) c.put-at.ensures c.put-decimal-at.ensures.after c.put.ensures in
+    let all = laid_group _ _ _ _ _ c.args.out.now _ _ _ (omega arith) c.put-at.ensures c.put_decimal-at.ensures.after c.put.ensures in
     record { end = front_end _ _ _ _ all; after = front_after _ _ _ _ all }

@@ -8,7 +8,7 @@ use Rattle.lex.specs.Parts.{pair}
 pub returns : goal.returns
 returns c =
     let both =
-    laid_pair _ _ _ _ (hex c.args.encoding) (decimal c.args.flags) _ _ _ _ (omega arith) c.put-hexadecimal-at.ensures.after c.put-at-2.ensures c.put-decimal-at.ensures.after
+    laid_pair _ _ _ _ (hex c.args.encoding) (decimal c.args.flags) _ _ _ _ (omega arith) c.put_hexadecimal-at.ensures.after c.put-at-2.ensures c.put_decimal-at.ensures.after
     in
     let all =
     laid_group _ _ _ (codes "(num ") (pair (hex c.args.encoding, decimal c.args.flags)) c.args.out.now _ _ _ (omega arith) c.put-at.ensures both c.put.ensures

@@ -8,7 +8,7 @@ use Rattle.lex.specs.Parts.{pair}
 pub returns : goal.returns
 returns c =
     let both =
-    laid_pair _ _ _ _ (decimal c.args.place) (hex c.args.encoding) _ _ _ _ (omega arith) c.put-decimal-at.ensures.after c.put-at-2.ensures c.put-hexadecimal-at.ensures.after
+    laid_pair _ _ _ _ (decimal c.args.place) (hex c.args.encoding) _ _ _ _ (omega arith) c.put_decimal-at.ensures.after c.put-at-2.ensures c.put_hexadecimal-at.ensures.after
     in
     let all =
     laid_group _ _ _ (codes "(peak ") (pair (decimal c.args.place, hex c.args.encoding)) c.args.out.now _ _ _ (omega arith) c.put-at.ensures both c.put.ensures

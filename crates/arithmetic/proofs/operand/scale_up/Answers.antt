@@ -4,19 +4,19 @@ use Rattle.rounding.specs.Format.{binary32, size, shift}
 use Rattle.arithmetic.proofs.Scaling.{scales}
 use Rattle.arithmetic.proofs.operand.scale_up.Goals as goal
 
-pub overflow-sub-lift : goal.overflow-sub-lift
-overflow-sub-lift c =
+pub overflow_sub-lift : goal.overflow_sub-lift
+overflow_sub-lift c =
     let n = size binary32 c.args.x.bits in
     (scales n c.significand-significand.result (shift 8388608 n) c.significand-significand.ensures refl (omega (arith, eqb-false n 0 c.requires.1)) (ltb-true n 2139095040 c.requires.0)).zeros
 
-pub overflow-add-result : goal.overflow-add-result
-overflow-add-result c =
+pub overflow_add-result : goal.overflow_add-result
+overflow_add-result c =
     let n = size binary32 c.args.x.bits in
     let s = scales n c.significand-significand.result c.shift.result c.significand-significand.ensures c.shift.ensures (omega (arith, eqb-false n 0 c.requires.1)) (ltb-true n 2139095040 c.requires.0) in
     omega (arith, s.near)
 
-pub overflow-sub-result : goal.overflow-sub-result
-overflow-sub-result c =
+pub overflow_sub-result : goal.overflow_sub-result
+overflow_sub-result c =
     let n = size binary32 c.args.x.bits in
     let s = scales n c.significand-significand.result c.shift.result c.significand-significand.ensures c.shift.ensures (omega (arith, eqb-false n 0 c.requires.1)) (ltb-true n 2139095040 c.requires.0) in
     omega (arith, s.few)

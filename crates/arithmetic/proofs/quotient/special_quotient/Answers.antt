@@ -13,5 +13,5 @@ returns-in-Zero-Number c =
       no_ask x y s t,
       λ m law.
           let e = zero_quotient m x y law s t in
-          (c.zero.ensures ∙ ap (λ z. joined binary32 z 0) c.signs-differ-negative.ensures ∙ sym (ap (λ (o : Outcome). o.bits) e), c.none.ensures ∙ sym (ap (λ (o : Outcome). o.flags) e)),
+          (c.zero.ensures ∙ ap (λ z. joined binary32 z 0) c.signs_differ-negative.ensures ∙ sym (ap (λ (o : Outcome). o.bits) e), c.none.ensures ∙ sym (ap (λ (o : Outcome). o.flags) e)),
     )

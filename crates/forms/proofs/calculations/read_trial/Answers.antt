@@ -6,4 +6,4 @@ use Rattle.lex.proofs.Cuts.{reads_group}
 
 pub returns : goal.returns
 returns c =
-    reads_group (codes "(try ") c.in-ok-inside.field-0.now c.args.line.now calculation Sized c.read-calculation.result c.in-ok-inside.ensures.1 c.read-calculation.ensures
+    reads_group (codes "(try ") c.in_ok-inside.field-0.now c.args.line.now calculation Sized c.read_calculation.result c.in_ok-inside.ensures.1 c.read_calculation.ensures

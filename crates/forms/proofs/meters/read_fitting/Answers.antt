@@ -12,22 +12,22 @@ Any _ = Unit {0}
 abbrev Every : AnyRule → Type 0
 Every _ = Unit {0}
 
-pub returns-in-err-engine : goal.returns-in-err-engine
-returns-in-err-engine c =
-    rw c.from-residual.ensures (
-    λ p good e. no_split engine rule Any Every (λ a _. solid_engine a) c.args.text.now c.in-err-engine.ensures p.0 p.1 tt e
+pub returns-in_err-engine : goal.returns-in_err-engine
+returns-in_err-engine c =
+    rw c.from_residual.ensures (
+    λ p good e. no_split engine rule Any Every (λ a _. solid_engine a) c.args.text.now c.in_err-engine.ensures p.0 p.1 tt e
     )
 
-pub returns-in-err-read-engine : goal.returns-in-err-read-engine
-returns-in-err-read-engine c =
-    rw c.from-residual-in-err-read-engine.ensures (
+pub returns-in_err-read_engine : goal.returns-in_err-read_engine
+returns-in_err-read_engine c =
+    rw c.from_residual-in_err-read_engine.ensures (
     λ p good e.
-    no_first engine rule Any Every (λ a _. solid_engine a) c.args.text.now c.in-ok-engine.engine.now c.in-ok-engine.rule.now c.in-ok-engine.ensures.0 c.in-ok-engine.ensures.1 c.in-err-read-engine.ensures p.0 p.1 tt e
+    no_first engine rule Any Every (λ a _. solid_engine a) c.args.text.now c.in_ok-engine.engine.now c.in_ok-engine.rule.now c.in_ok-engine.ensures.0 c.in_ok-engine.ensures.1 c.in_err-read_engine.ensures p.0 p.1 tt e
     )
 
-pub returns-in-err-read-rule : goal.returns-in-err-read-rule
-returns-in-err-read-rule c =
-    rw c.from-residual-in-err-read-rule.ensures (
+pub returns-in_err-read_rule : goal.returns-in_err-read_rule
+returns-in_err-read_rule c =
+    rw c.from_residual-in_err-read_rule.ensures (
     λ p good e.
-    no_second engine rule Any Every (λ a _. solid_engine a) c.args.text.now c.in-ok-engine.engine.now c.in-ok-engine.rule.now c.in-ok-engine.ensures.0 c.in-ok-engine.ensures.1 c.in-err-read-rule.ensures p.0 p.1 tt tt e
+    no_second engine rule Any Every (λ a _. solid_engine a) c.args.text.now c.in_ok-engine.engine.now c.in_ok-engine.rule.now c.in_ok-engine.ensures.0 c.in_ok-engine.ensures.1 c.in_err-read_rule.ensures p.0 p.1 tt tt e
     )

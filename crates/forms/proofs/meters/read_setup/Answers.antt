@@ -17,29 +17,29 @@ Any _ = Unit {0}
 solid : (n : ℕ) → Short n → Solid (decimal n)
 solid n short = solid_decimal n (omega arith)
 
-pub returns-in-err-address : goal.returns-in-err-address
-returns-in-err-address c =
-    rw c.from-residual-in-err-address.ensures (
+pub returns-in_err-address : goal.returns-in_err-address
+returns-in_err-address c =
+    rw c.from_residual-in_err-address.ensures (
     λ s good e.
-    no_split decimal fitting Short Any solid c.in-ok-inside.field-0.now c.in-err-address.ensures s.address (s.engine, s.rule) good (
-    group_same (codes "(meter ") _ _ (sym c.in-ok-inside.ensures.1 ∙ e)
+    no_split decimal fitting Short Any solid c.in_ok-inside.field-0.now c.in_err-address.ensures s.address (s.engine, s.rule) good (
+    group_same (codes "(meter ") _ _ (sym c.in_ok-inside.ensures.1 ∙ e)
     )
     )
 
-pub returns-in-err-address-2 : goal.returns-in-err-address-2
-returns-in-err-address-2 c =
-    rw c.from-residual-in-err-address-2.ensures (
+pub returns-in_err-address-2 : goal.returns-in_err-address-2
+returns-in_err-address-2 c =
+    rw c.from_residual-in_err-address-2.ensures (
     λ s good e.
-    no_first decimal fitting Short Any solid c.in-ok-inside.field-0.now c.in-ok-address.address.now c.in-ok-address.names.now c.in-ok-address.ensures.0 c.in-ok-address.ensures.1 c.in-err-address-2.ensures s.address (s.engine, s.rule) good (
-    group_same (codes "(meter ") _ _ (sym c.in-ok-inside.ensures.1 ∙ e)
+    no_first decimal fitting Short Any solid c.in_ok-inside.field-0.now c.in_ok-address.address.now c.in_ok-address.names.now c.in_ok-address.ensures.0 c.in_ok-address.ensures.1 c.in_err-address-2.ensures s.address (s.engine, s.rule) good (
+    group_same (codes "(meter ") _ _ (sym c.in_ok-inside.ensures.1 ∙ e)
     )
     )
 
-pub returns-in-err-engine : goal.returns-in-err-engine
-returns-in-err-engine c =
-    rw c.from-residual-in-err-engine.ensures (
+pub returns-in_err-engine : goal.returns-in_err-engine
+returns-in_err-engine c =
+    rw c.from_residual-in_err-engine.ensures (
     λ s good e.
-    no_second decimal fitting Short Any solid c.in-ok-inside.field-0.now c.in-ok-address.address.now c.in-ok-address.names.now c.in-ok-address.ensures.0 c.in-ok-address.ensures.1 c.in-err-engine.ensures s.address (s.engine, s.rule) good tt (
-    group_same (codes "(meter ") _ _ (sym c.in-ok-inside.ensures.1 ∙ e)
+    no_second decimal fitting Short Any solid c.in_ok-inside.field-0.now c.in_ok-address.address.now c.in_ok-address.names.now c.in_ok-address.ensures.0 c.in_ok-address.ensures.1 c.in_err-engine.ensures s.address (s.engine, s.rule) good tt (
+    group_same (codes "(meter ") _ _ (sym c.in_ok-inside.ensures.1 ∙ e)
     )
     )

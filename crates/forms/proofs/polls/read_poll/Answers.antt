@@ -9,7 +9,7 @@ pub loop-inner-init : goal.loop-inner-init
 unfolding repeated
 loop-inner-init c = (
   refl,
-  omega (arith, poll_longer c.args.line.now c.in-ok-rest.rest.now c.in-ok-rest.ensures.1),
+  omega (arith, poll_longer c.args.line.now c.in_ok-rest.rest.now c.in_ok-rest.ensures.1),
 )
 
 pub loop-inner-smaller : goal.loop-inner-smaller
@@ -21,16 +21,16 @@ loop-inner-preserved c = (
   omega (arith, shorter c.loop-inner.rest.now c.in-Some.inner.now c.in-Some.ensures.1),
 )
 
-pub returns-in-err-read-ending : goal.returns-in-err-read-ending
-returns-in-err-read-ending c =
-    rw c.from-residual-in-err-read-ending.ensures (
+pub returns-in_err-read_ending : goal.returns-in_err-read_ending
+returns-in_err-read_ending c =
+    rw c.from_residual-in_err-read_ending.ensures (
     λ p good e.
     let inner =
-    group_same (codes "(poll ") c.in-ok-rest.rest.now (repeated p.again (ending p.ending)) (
-    sym c.in-ok-rest.ensures.1 ∙ e
+    group_same (codes "(poll ") c.in_ok-rest.rest.now (repeated p.again (ending p.ending)) (
+    sym c.in_ok-rest.ensures.1 ∙ e
     )
     in
-    c.in-err-read-ending.ensures p.ending good (repeated_same c.loop-inner.again p.again c.loop-inner.rest.now (ending p.ending) (λ x. c.in-default.ensures x tt) (ending_ends p.ending) (
+    c.in_err-read_ending.ensures p.ending good (repeated_same c.loop-inner.again p.again c.loop-inner.rest.now (ending p.ending) (λ x. c.in_default.ensures x tt) (ending_ends p.ending) (
     sym c.loop-inner.invariant.0 ∙ inner
     )).1
     )

@@ -27,10 +27,10 @@ returns-in-Pair g c =
       answer =
           λ sign s n u np no_sign due.
           let d = subst (λ (k : Ask). Due sign s n u k) c.in-Pair.is due in
-          subst (λ (b : Bool). Gives c.divide-sum.result (rounded binary32 m (record { negative = b; num = s; den = n * 2 ^ u }))) d.1
-          (c.divide-sum.ensures.answer s n u np d.3);
+          subst (λ (b : Bool). Gives c.divide_sum.result (rounded binary32 m (record { negative = b; num = s; den = n * 2 ^ u }))) d.1
+          (c.divide_sum.ensures.answer s n u np d.3);
       after =
           λ sign s n u np nl due.
           let d = subst (λ (k : Ask). Due sign s n u k) c.in-Pair.is due in
-          c.divide-sum.ensures.after ∙ ask_log (g.E.Engine.logged c.args.engine.now) s n c.in-Pair.asked.divisor c.in-Pair.asked.dividend d.0 np nl d.2;
+          c.divide_sum.ensures.after ∙ ask_log (g.E.Engine.logged c.args.engine.now) s n c.in-Pair.asked.divisor c.in-Pair.asked.dividend d.0 np nl d.2;
     }

@@ -3,10 +3,10 @@ use borrow.Author.Differences.{ints}
 use Rattle.window.specs.Replies.{signed_of}
 use Rattle.window.proofs.words.signed.Goals as goal
 
-pub returns-then-is-negative : goal.returns-then-is-negative
+pub returns-then-is_negative : goal.returns-then-is_negative
 unfolding signed_of
-returns-then-is-negative c = rw (sym c.if-is-negative.ensures) (omega (arith, ints, c.significand-size.ensures))
+returns-then-is_negative c = rw (sym c.if-is_negative.ensures) (omega (arith, ints, c.significand-size.ensures))
 
-pub returns-else-is-negative : goal.returns-else-is-negative
+pub returns-else-is_negative : goal.returns-else-is_negative
 unfolding signed_of
-returns-else-is-negative c = rw (sym c.if-is-negative.ensures) (omega (arith, ints, c.significand-size.ensures))
+returns-else-is_negative c = rw (sym c.if-is_negative.ensures) (omega (arith, ints, c.significand-size.ensures))

@@ -3,10 +3,10 @@ use Rattle.places.specs.Digits.{bits_value}
 use Rattle.places.proofs.Asked.{asks_band, scales_moved}
 use Rattle.window.proofs.asked.making.ask_of.Goals as goal
 
-pub invariant-of-result : goal.invariant-of-result
-invariant-of-result c =
+pub invariant_of-result : goal.invariant_of-result
+invariant_of-result c =
     let a = c.in-Some.ensures.2 in
-    (a.normal, (asks_band (bits_value c.args.sum.now.digits) c.args.count c.in-Some.pair.divisor c.in-Some.pair.dividend a, tt))
+    record { normal = a.normal; band = asks_band (bits_value c.args.sum.now.digits) c.args.count c.in-Some.pair.divisor c.in-Some.pair.dividend a }
 
 pub returns-in-Some : goal.returns-in-Some
 returns-in-Some c =

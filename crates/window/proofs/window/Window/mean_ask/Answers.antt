@@ -11,4 +11,4 @@ returns c =
     let u : ℕ = spread 1 (ups c.args.self.now.words.sums) 255 in
     let d : ℕ = spread 1 (downs c.args.self.now.words.sums) 255 in
     let e = sums_total c.args.self.now.words (standing c.args.self.now) c.args.self.now.held.2 c.args.self.now.held.1 in
-    (omega arith, due_at 149 c.ask-of.result (c.sum-sum.ensures.sign ∙ sign_is u d z e) (c.sum-sum.ensures.size ∙ size_is u d z e) c.count-count.ensures.stands c.ask-of.ensures)
+    (omega arith, due_at 149 c.ask_of.result (c.sum-sum.ensures.sign ∙ sign_is u d z e) (c.sum-sum.ensures.size ∙ size_is u d z e) c.count-count.ensures.stands c.ask_of.ensures)

@@ -22,21 +22,21 @@ without-words-requires c =
       held = rw c.at.ensures (tells_held c.args.self.now.words xs 0 c.args.self.now.held.2 some);
     }
 
-pub invariant-of-self : goal.invariant-of-self
-invariant-of-self c =
+pub invariant_of-self : goal.invariant_of-self
+invariant_of-self c =
     let xs : List Encoding = standing c.args.self.now in
     let some : 0 < length xs = omega arith in
-    let left = c.without-oldest-ring.ensures.stands in
-    let told : Tells c.args.self.now.words (get_or xs 0 blank ∷ drop 1 xs) = subst (Tells c.args.self.now.words) (oldest_apart xs some) c.args.self.now.held.2 in (
-      (
-        c.without-oldest-ring.ensures.sound,
+    let left = c.without_oldest-ring.ensures.stands in
+    let told : Tells c.args.self.now.words (get_or xs 0 blank ∷ drop 1 xs) = subst (Tells c.args.self.now.words) (oldest_apart xs some) c.args.self.now.held.2 in
+    record {
+      held = (
+        c.without_oldest-ring.ensures.sound,
         subst AllFinite (sym left) (finite_older xs c.args.self.now.held.1),
         subst (Tells c.without-words.result) (sym left) (tells_older c.without-words.result c.args.self.now.words (get_or xs 0 blank) (drop 1 xs) (rw c.at.ensures at c.without-words.ensures) told),
-      ),
-      tt,
-    )
+      );
+    }
 
 pub returns : goal.returns
 returns c =
     let xs : List Encoding = standing c.args.self.now in
-    record { result = omega (arith, ap length c.without-oldest-ring.ensures.stands, length-drop 1 xs); stands = search rules }
+    record { result = omega (arith, ap length c.without_oldest-ring.ensures.stands, length-drop 1 xs); stands = search rules }

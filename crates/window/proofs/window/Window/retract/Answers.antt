@@ -23,22 +23,22 @@ without-words-requires c =
       held = rw gone (tells_held c.args.self.now.words xs (length xs - 1) c.args.self.now.held.2 some);
     }
 
-pub invariant-of-self : goal.invariant-of-self
-invariant-of-self c =
+pub invariant_of-self : goal.invariant_of-self
+invariant_of-self c =
     let xs : List Encoding = standing c.args.self.now in
     let some : 0 < length xs = omega arith in
     let gone : c.at.result ≡ get_or xs (length xs - 1) blank = c.at.ensures ∙ ap (λ (n : ℕ). get_or xs (n - 1) blank) c.count-2.ensures.stands in
-    let left = c.without-newest-ring.ensures.stands in
-    let told : Tells c.args.self.now.words (take (length xs - 1) xs ++ get_or xs (length xs - 1) blank ∷ []) = subst (Tells c.args.self.now.words) (newest_apart xs some) c.args.self.now.held.2 in (
-      (
-        c.without-newest-ring.ensures.sound,
+    let left = c.without_newest-ring.ensures.stands in
+    let told : Tells c.args.self.now.words (take (length xs - 1) xs ++ get_or xs (length xs - 1) blank ∷ []) = subst (Tells c.args.self.now.words) (newest_apart xs some) c.args.self.now.held.2 in
+    record {
+      held = (
+        c.without_newest-ring.ensures.sound,
         subst AllFinite (sym left) (finite_newer xs (length xs - 1) (omega arith) c.args.self.now.held.1),
         subst (Tells c.without-words.result) (sym left) (tells_newer c.without-words.result c.args.self.now.words (get_or xs (length xs - 1) blank) (take (length xs - 1) xs) (rw gone at c.without-words.ensures) told),
-      ),
-      tt,
-    )
+      );
+    }
 
 pub returns : goal.returns
 returns c =
     let xs : List Encoding = standing c.args.self.now in
-    record { result = omega (arith, ap length c.without-newest-ring.ensures.stands, length-take-le (length xs - 1) xs (omega arith)); stands = search rules }
+    record { result = omega (arith, ap length c.without_newest-ring.ensures.stands, length-take-le (length xs - 1) xs (omega arith)); stands = search rules }

@@ -19,23 +19,23 @@ with-words-requires c =
       roomy = tells_roomy c.args.self.now.words (standing c.args.self.now) c.args.self.now.held.2 (omega arith);
     }
 
-pub invariant-of-self : goal.invariant-of-self
-invariant-of-self c =
+pub invariant_of-self : goal.invariant_of-self
+invariant_of-self c =
     let xs : List Encoding = standing c.args.self.now in
     let e : Encoding = c.encoding-reply.result in
-    let more = c.with-newest-ring.ensures.stands in (
-      (
-        c.with-newest-ring.ensures.sound,
+    let more = c.with_newest-ring.ensures.stands in
+    record {
+      held = (
+        c.with_newest-ring.ensures.sound,
         subst AllFinite (sym more) (finite_more xs e c.args.self.now.held.1 (search rules)),
         subst (Tells c.with-words.result) (sym more) (tells_more c.args.self.now.words c.with-words.result e xs c.with-words.ensures c.args.self.now.held.2),
-      ),
-      tt,
-    )
+      );
+    }
 
 pub returns : goal.returns
 returns c =
     let room : length (standing c.args.self.now) < 288 = omega arith in
-    let n = ap length c.with-newest-ring.ensures.stands ∙ length_push (standing c.args.self.now) c.encoding-reply.result in
+    let n = ap length c.with_newest-ring.ensures.stands ∙ length_push (standing c.args.self.now) c.encoding-reply.result in
     record {
       result = (room, omega (arith, n));
       stands = rw (lt-ltb (length (standing c.args.self.now)) 288 room) (search rules);

@@ -6,8 +6,8 @@ use Rattle.window.specs.Words.{signed_at, square_at}
 use Rattle.window.proofs.Adding.{at_place, signed_small, signed_here, signed_apart, square_here, square_apart}
 use Rattle.window.proofs.words.Words.without.Goals as goal
 
-pub overflow-sub-sums : goal.overflow-sub-sums
-overflow-sub-sums c = omega (arith, ints, c.signed.ensures, signed_small c.args.reply, c.requires.roomy c.field-field.result)
+pub overflow_sub-sums : goal.overflow_sub-sums
+overflow_sub-sums c = omega (arith, ints, c.signed.ensures, signed_small c.args.reply, c.requires.roomy c.field-field.result)
 
 held : (c : goal.After-square) → square_of c.args.reply ≤ get_or c.args.self.squares c.field-field.result 0
 held c = rw c.field-field.ensures c.requires.held
