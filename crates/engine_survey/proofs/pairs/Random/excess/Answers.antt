@@ -18,10 +18,10 @@ returns-in-3 c =
           (omega arith) (omega arith),
     )
 
-pub returns-in-default : goal.returns-in-default
-returns-in-default c =
+pub returns-in_default : goal.returns-in_default
+returns-in_default c =
     omega (
       arith,
-      mul-add-lt (c.next-2.result % 16777216) c.args.divisor (c.next-in-default.result % 8388608) 16777216 (omega arith)
+      mul-add-lt (c.next-2.result % 16777216) c.args.divisor (c.next-in_default.result % 8388608) 16777216 (omega arith)
           (omega arith),
     )

@@ -3,8 +3,8 @@ use Rattle.std.proofs.lemmas.Nat.{div_below}
 use Rattle.std.proofs.lemmas.Bool.Decides.{nat_tests}
 use Rattle.engine_survey.proofs.tally.Three.quotients.Goals as goal
 
-pub overflow-cast-machine-2 : goal.overflow-cast-machine-2
-overflow-cast-machine-2 c =
+pub overflow_cast-machine-2 : goal.overflow_cast-machine-2
+overflow_cast-machine-2 c =
     let some : 0 < c.args.pair.divisor = grind (arith, nat_tests) in
     let range : c.args.pair.dividend < 33554432 * c.args.pair.divisor = grind (arith, nat_tests) in
     record {

@@ -5,6 +5,6 @@ use Rattle.meter.proofs.meter.Meter.peak.Goals as goal
 
 pub returns : goal.returns
 returns g c =
-    let p = c.in-ok-peak.ensures in
-    let k = c.in-ok-peak.field-0 in
+    let p = c.in_ok-peak.ensures in
+    let k = c.in_ok-peak.field-0 in
     (simp (some_stands (standing c.args.self.now.window) (k.place - 1) k.encoding p.stands) refl, p)
