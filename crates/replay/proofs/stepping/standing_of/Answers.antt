@@ -3,7 +3,7 @@ use Rattle.rounding.specs.declared.encoding.Encoding.{Encoding}
 use Rattle.window.specs.Window.{standing}
 use Rattle.replay.proofs.Filling.{filled_more, take_whole, nth_some}
 use Rattle.replay.proofs.stepping.standing_of.Goals as goal
-use Rattle.replay.proofs.stepping.standing_of.Goals.{in-Some, in-default}
+use Rattle.replay.proofs.stepping.standing_of.Goals.{in-Some, in_default}
 
 pub loop-i-preserved : goal.loop-i-preserved
 loop-i-preserved g c =
@@ -11,11 +11,11 @@ loop-i-preserved g c =
     let i : ℕ = c.loop-i.i in
     let far : i < 288 = omega (arith, c.loop-i-test.true, c.standing-i-end.ensures.few) in
     let inside : i < length xs = omega (arith, c.loop-i-test.true, c.standing-i-end.ensures.is) in
-    elim c.match-reply-at.branch [
+    elim c.match-reply_at.branch [
       | in-Some w ↦
           w.list-is ∙ ap (λ (l : List Encoding). set l i w.in-Some.reply) c.loop-i.invariant
           ∙ filled_more xs 288 i w.in-Some.reply (record { bits = 0 }) (sym w.in-Some.ensures) far
-      | in-default w ↦ absurd (nth_some xs i inside (sym w.in-default.ensures))
+      | in_default w ↦ absurd (nth_some xs i inside (sym w.in_default.ensures))
     ]
 
 pub returns : goal.returns
