@@ -7,7 +7,7 @@ use Rattle.window.specs.Window.{newest_of}
 use Rattle.engines.specs.Meaning.{none}
 use Rattle.meter.specs.Addresses.{refuses_address}
 use Rattle.meter.specs.Model.{Model, fresh, first, unless, refuses_poll, refuses_repeat, refuses_reply, refuses_lapse, refuses_empty, polled, replied, lapsed, retired, retracted}
-use Rattle.named_polls.specs.declared.SeenPoll.{SeenPoll}
+use Rattle.replay.specs.declared.step.SeenPoll.{SeenPoll}
 use Rattle.named_polls.specs.Numbers.{is_poll}
 use Rattle.c_interface.specs.declared.answer.MeterAnswer.{MeterAnswer}
 use Rattle.c_interface.specs.declared.answer.PollAnswer.{PollAnswer}

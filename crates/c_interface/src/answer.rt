@@ -4,7 +4,7 @@ ghost use Rattle.c_interface.specs.Numbers.{asked_of, number_refused};
 
 use crate::data::MeterData;
 use engines::Log;
-use named_polls::SeenPoll;
+use replay::step::SeenPoll;
 use rounding::round::Answer;
 
 // What a call asked its engine: how many estimates, and the last pair.

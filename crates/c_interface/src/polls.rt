@@ -12,7 +12,9 @@ use crate::shown::shown;
 use crate::unknown::Unknown;
 use meter::address::Address;
 use meter::token::Refused;
-use named_polls::{SeenPoll, seen_and_ended, token_of};
+use named_polls::named;
+use replay::step::SeenPoll;
+use replay::tokens::{seen_and_ended, token_of};
 use rounding::encoding::Encoding;
 
 // A meter at rest, with nothing standing; all numbers 0 where it is refused.
@@ -106,19 +108,19 @@ pub extern "C" fn wozkerrim_repeat(meter: MeterData, poll: SeenPoll) -> RepeatAn
             refused: Unknown::Meter.number(),
         };
     };
-    let Some(named) = poll.named() else {
+    let Some(known) = named(poll) else {
         return RepeatAnswer {
             poll,
             refused: Unknown::Poll.number(),
         };
     };
-    match held.repeat(token_of(named)) {
+    match held.repeat(token_of(known)) {
         Ok(next) => RepeatAnswer {
-            poll: seen_and_ended(named.address, next),
+            poll: seen_and_ended(known.address, next),
             refused: 0,
         },
         Err(Refused { poll: back, fault }) => RepeatAnswer {
-            poll: seen_and_ended(named.address, back),
+            poll: seen_and_ended(known.address, back),
             refused: fault.number(),
         },
     }
@@ -138,7 +140,7 @@ pub extern "C" fn wozkerrim_reply(meter: MeterData, poll: SeenPoll, bits: u32) -
             refused: Unknown::Meter.number(),
         };
     };
-    let Some(named) = poll.named() else {
+    let Some(known) = named(poll) else {
         return ReplyAnswer {
             meter,
             poll,
@@ -146,7 +148,7 @@ pub extern "C" fn wozkerrim_reply(meter: MeterData, poll: SeenPoll, bits: u32) -
             refused: Unknown::Poll.number(),
         };
     };
-    match held.reply(token_of(named), Encoding::from_bits(bits)) {
+    match held.reply(token_of(known), Encoding::from_bits(bits)) {
         Ok(standing) => ReplyAnswer {
             meter: shown(&meter, &held),
             poll: no_poll(),
@@ -155,7 +157,7 @@ pub extern "C" fn wozkerrim_reply(meter: MeterData, poll: SeenPoll, bits: u32) -
         },
         Err(Refused { poll: back, fault }) => ReplyAnswer {
             meter,
-            poll: seen_and_ended(named.address, back),
+            poll: seen_and_ended(known.address, back),
             standing: 0,
             refused: fault.number(),
         },
@@ -174,13 +176,13 @@ pub extern "C" fn wozkerrim_lapse(meter: MeterData, poll: SeenPoll) -> MeterAnsw
             refused: Unknown::Meter.number(),
         };
     };
-    let Some(named) = poll.named() else {
+    let Some(known) = named(poll) else {
         return MeterAnswer {
             meter,
             refused: Unknown::Poll.number(),
         };
     };
-    match held.lapse(token_of(named)) {
+    match held.lapse(token_of(known)) {
         Ok(()) => MeterAnswer {
             meter: shown(&meter, &held),
             refused: 0,

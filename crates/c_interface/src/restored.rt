@@ -13,7 +13,7 @@ use engine_choice::AnyEngine;
 use meter::address::Address;
 use meter::meter::Meter;
 use meter::token::{PendingPoll, Refused};
-use named_polls::seen_and_ended;
+use replay::tokens::seen_and_ended;
 use rounding::encoding::Encoding;
 use rounding::rules::AnyRule;
 

@@ -1,6 +1,6 @@
 -- The numbers that a poll can have.
 use Rattle.std.specs.Prelude.{Bool, ◌&&◌, nat_le}
-use Rattle.named_polls.specs.declared.SeenPoll.{SeenPoll}
+use Rattle.replay.specs.declared.step.SeenPoll.{SeenPoll}
 
 -- an inverter's address, and one of three attempts
 abbrev pub is_poll : SeenPoll → Bool

@@ -6,4 +6,4 @@ mod perform;
 pub mod replaying;
 pub mod step;
 mod stepping;
-mod tokens;
+pub mod tokens;

@@ -6,7 +6,8 @@ use rounding::round::Answer;
 // How many replies a step has room for: as many as ever stand.
 pub const ROOM: usize = 288;
 
-// A poll as it was seen: its address and attempt.
+// A poll as it was seen: its address and attempt. It crosses to C as it is.
+#[repr(C)]
 #[derive(Clone, Copy)]
 pub struct SeenPoll {
     pub address: u8,

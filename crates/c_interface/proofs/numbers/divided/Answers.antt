@@ -12,5 +12,5 @@ returns c =
     let x = c.args.dividend.bits in
     let y = c.args.divisor.bits in
     let fresh = ap (λ (l : Log). quotient_log binary32 l x y) c.new-engine.ensures.fresh in
-    let log : c.log.result ≡ quotient_log binary32 none x y = cc (c.log.ensures, c.quotient_answer.ensures.asked, fresh) in
-    told c.accepted.result c.quotient_answer.result c.log.result (quotient_log binary32 none x y) (quotient binary32 (rule_of c.args.rule) x y) c.accepted.ensures c.quotient_answer.ensures.answer log
+    let log : c.log.result ≡ quotient_log binary32 none x y = cc (c.log.ensures, c.quotient-answer.ensures.asked, fresh) in
+    told c.accepted.result c.quotient-answer.result c.log.result (quotient_log binary32 none x y) (quotient binary32 (rule_of c.args.rule) x y) c.accepted.ensures c.quotient-answer.ensures.answer log

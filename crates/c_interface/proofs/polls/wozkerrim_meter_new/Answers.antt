@@ -7,7 +7,7 @@ use Rattle.c_interface.proofs.polls.wozkerrim_meter_new.Goals as goal
 pub returns-in-Ok : goal.returns-in-Ok
 returns-in-Ok c =
     let n = c.in-Some.field-0 in
-    let k = c.in-Some-rule-numbered.field-0 in
+    let k = c.in-Some-rule_numbered.field-0 in
     let made : engine_numbered c.args.engine ≡ Some n = search rules in
     let ruled : rule_numbered c.args.rule ≡ Some k = search rules in
     let bound = c.number-in-Ok.ensures.bound in

@@ -9,14 +9,14 @@ use Rattle.c_interface.proofs.Restoring.{no_engine, no_rule, no_meter, too_many,
 use Rattle.c_interface.proofs.restored.restored.Goals as goal
 use Rattle.c_interface.proofs.restored.restored.Goals.{then-numbers-gt288-via-then-numbers-gt288, then-numbers-gt288-via-else-numbers-gt288+then-numbers-gt1}
 
-pub returns-in-err-engine : goal.returns-in-err-engine
-returns-in-err-engine c = let e = no_engine c.args.numbers.now in search rules
+pub returns-in_err-engine : goal.returns-in_err-engine
+returns-in_err-engine c = let e = no_engine c.args.numbers.now in search rules
 
-pub returns-in-err-rule : goal.returns-in-err-rule
-returns-in-err-rule c = let e = no_rule c.args.numbers.now in search rules
+pub returns-in_err-rule : goal.returns-in_err-rule
+returns-in_err-rule c = let e = no_rule c.args.numbers.now in search rules
 
-pub returns-in-default : goal.returns-in-default
-returns-in-default c = record { held = no_meter c.args.numbers.now (search rules); fresh = tt }
+pub returns-in_default : goal.returns-in_default
+returns-in_default c = record { held = no_meter c.args.numbers.now (search rules); fresh = tt }
 
 pub returns-then-numbers-gt288 : goal.returns-then-numbers-gt288
 returns-then-numbers-gt288 c =
@@ -38,8 +38,8 @@ returns-then-not-refill c =
 pub returns : goal.returns
 returns c =
     let d = c.args.numbers.now in
-    let n = c.in-ok-engine.engine in
-    let k = c.in-ok-rule.rule in
+    let n = c.in_ok-engine.engine in
+    let k = c.in_ok-rule.rule in
     let made : engine_numbered d.engine ≡ Some n = search rules in
     let ruled : rule_numbered d.rule ≡ Some k = search rules in
     let number = c.in-Ok.ensures.1 in

@@ -3,10 +3,10 @@ use Rattle.std.proofs.lemmas.List.{length-map, take_all}
 use Rattle.std.specs.List.{slice_get}
 use Rattle.rounding.specs.declared.encoding.Encoding.{Encoding}
 use Rattle.window.specs.Window.{standing}
-use Rattle.meter.proofs.Filling.{filled_more, nth_some}
+use Rattle.replay.proofs.Filling.{filled_more, nth_some}
 use Rattle.c_interface.proofs.Cells.{nth_bits}
 use Rattle.c_interface.proofs.shown.replies_of.Goals as goal
-use Rattle.c_interface.proofs.shown.replies_of.Goals.{in-Some, in-default}
+use Rattle.c_interface.proofs.shown.replies_of.Goals.{in-Some, in_default}
 
 pub loop-i-preserved : goal.loop-i-preserved
 loop-i-preserved c =
@@ -14,13 +14,13 @@ loop-i-preserved c =
     let i : ℕ = c.loop-i.i in
     let far : i < 288 = omega (arith, c.loop-i-test.true, c.standing-i-end.ensures.few) in
     let inside : i < length xs = omega (arith, c.loop-i-test.true, c.standing-i-end.ensures.is) in
-    elim c.match-reply-at.branch [
+    elim c.match-reply_at.branch [
       | in-Some w ↦
           w.list-is
-          ∙ ap (λ (l : List ℕ). set l i w.to-bits.result) c.loop-i.invariant
-          ∙ ap (λ (v : ℕ). set (take i (map (λ (e : Encoding). e.bits) xs) ++ replicate (288 - i) 0) i v) w.to-bits.ensures
+          ∙ ap (λ (l : List ℕ). set l i w.to_bits.result) c.loop-i.invariant
+          ∙ ap (λ (v : ℕ). set (take i (map (λ (e : Encoding). e.bits) xs) ++ replicate (288 - i) 0) i v) w.to_bits.ensures
           ∙ filled_more (map (λ (e : Encoding). e.bits) xs) 288 i w.in-Some.reply.bits 0 (nth_bits xs i w.in-Some.reply (sym {b = slice_get xs i} w.in-Some.ensures)) far
-      | in-default w ↦ absurd (nth_some xs i inside (sym {b = slice_get xs i} w.in-default.ensures))
+      | in_default w ↦ absurd (nth_some xs i inside (sym {b = slice_get xs i} w.in_default.ensures))
     ]
 
 pub returns : goal.returns

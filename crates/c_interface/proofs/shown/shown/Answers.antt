@@ -13,12 +13,12 @@ returns c =
     let m = c.args.meter.now in
     let a = m.address.valid in
     let r : MeterData = record {
-      replies = c.replies-of-replies.result;
+      replies = c.replies_of-replies.result;
       standing = c.standing.result;
       address = c.number.result;
       engine = d.engine;
       rule = d.rule;
-      pending = c.pending-of.result;
+      pending = c.pending_of.result;
     } in
     let is : r ≡ shown d (model m) = search rules in
     record { is = is; again = again_held d r (model m) c.requires is a.0 a.1 (standing_few m.window) (each_finite (standing m.window) (standing_finite m.window)) }

@@ -3,4 +3,4 @@ use Rattle.console.proofs.Fronts.{fed}
 use Rattle.console.proofs.replies.with_line_feed.Goals as goal
 
 pub returns : goal.returns
-returns c = fed c.args.text.now _ c.copy-from-slice.new.self c.args.count _ (omega arith) (omega arith) (omega arith) c.copy-from-slice.ensures.after
+returns c = fed c.args.text.now _ c.copy_from_slice.new.self c.args.count _ (omega arith) (omega arith) (omega arith) c.copy_from_slice.ensures.after

@@ -14,6 +14,6 @@ returns g c =
           promise r q (g.met.R.Rule.lawful a.rule) (g.met.S.Rule.lawful b.rule)
           (watched r c.run-first_engine.auto.steps c.run-first_engine.ensures.written)
           (watched q c.run-second_engine.auto.steps c.run-second_engine.ensures.written);
-      first-engine = c.run-first_engine.ensures.engine;
-      second-engine = c.run-second_engine.ensures.engine;
+      first_engine = c.run-first_engine.ensures.engine;
+      second_engine = c.run-second_engine.ensures.engine;
     }
