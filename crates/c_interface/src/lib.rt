@@ -2,10 +2,10 @@
 #![tactic(auto)]
 
 pub mod answer;
+pub mod averages;
 mod chosen;
 pub mod data;
 pub mod fixed;
-pub mod means;
 pub mod numbers;
 pub mod polls;
 pub mod replies;

@@ -1,9 +1,10 @@
-// A pending poll: a token that only a meter makes, and that is let go only by ending it.
+// A pending poll: a token that only a meter makes, and that is let go only once it is spent.
 ghost use Rattle.std.specs.Prelude.{◌≡◌};
 
 use crate::fault::MeterFault;
 
-// One question to an inverter. It has to end in a reply or a lapse: nobody can show what its `drop` requires.
+// One question to an inverter. It has to end in a reply or a lapse: attempts count from 1, only a spent poll has 0, and none but a meter
+// spends one.
 pub struct PendingPoll {
     address: u8,
     attempt: u8,
@@ -11,7 +12,7 @@ pub struct PendingPoll {
 
 impl Drop for PendingPoll {
     fn drop(self)
-        requires { ⊥ }
+        requires { self.attempt ≡ 0 }
     {
         let PendingPoll {
             address: _,
@@ -28,11 +29,8 @@ impl PendingPoll {
     }
 
     // The token's end.
-    pub(crate) fn spend(self) {
-        let PendingPoll {
-            address: _,
-            attempt: _,
-        } = self;
+    pub(crate) fn spend(mut self) {
+        self.attempt = 0;
     }
 
     pub fn address(&self) -> u8

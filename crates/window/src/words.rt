@@ -46,11 +46,10 @@ impl Words {
         ensures { Joins self reply result }
     {
         let field = reply.field() as usize;
-        let mut sums = self.sums;
-        let mut squares = self.squares;
-        sums[field] += signed(reply);
-        squares[field] += square(reply);
-        Words { sums, squares }
+        let mut next = self;
+        next.sums[field] += signed(reply);
+        next.squares[field] += square(reply);
+        next
     }
 
     // One reply less.
@@ -61,11 +60,10 @@ impl Words {
         ensures { Joins result reply self }
     {
         let field = reply.field() as usize;
-        let mut sums = self.sums;
-        let mut squares = self.squares;
-        sums[field] -= signed(reply);
-        squares[field] -= square(reply);
-        Words { sums, squares }
+        let mut next = self;
+        next.sums[field] -= signed(reply);
+        next.squares[field] -= square(reply);
+        next
     }
 
     // The sum of all replies, in units of the smallest subnormal.

@@ -5,11 +5,11 @@ use Rattle.window.specs.Words.{signed_at, square_at}
 use Rattle.window.proofs.Adding.{at_place, signed_small, square_small, signed_here, signed_apart, square_here, square_apart}
 use Rattle.window.proofs.words.Words.with.Goals as goal
 
-pub overflow_add-sums : goal.overflow_add-sums
-overflow_add-sums c = omega (arith, ints, c.signed.ensures, signed_small c.args.reply, c.requires.roomy c.field-field.result)
+pub overflow_add-next : goal.overflow_add-next
+overflow_add-next c = omega (arith, ints, c.signed.ensures, signed_small c.args.reply, c.requires.roomy c.field-field.result)
 
-pub overflow_add-squares : goal.overflow_add-squares
-overflow_add-squares c = omega (arith, c.square.ensures, square_small c.args.reply, c.requires.roomy c.field-field.result)
+pub overflow_add-next-2 : goal.overflow_add-next-2
+overflow_add-next-2 c = omega (arith, c.square.ensures, square_small c.args.reply, c.requires.roomy c.field-field.result)
 
 pub returns : goal.returns
 returns c k =
