@@ -15,8 +15,13 @@ FIELD = re.compile(r"\s+(?:pub\s+)?(" + NAME + r")\s+:\s")
 ALIAS = re.compile(r"\bas ([\w'-]+)")
 TOKEN = re.compile(r"[\w'-]+")
 
+# A fact that was spelled as a value.
+FACTS = {"less-signed": "LessSigned"}
+
 
 def spelled(name):
+    if name in FACTS:
+        return FACTS[name]
     if "-" not in name and not re.search(r"[a-z][A-Z]", name):
         return name
     if name[0].isupper():

@@ -3,7 +3,7 @@ use Rattle.std.proofs.Common.{◌≡◌, ℕ, ◌+◌, ◌-◌, ◌*◌, ◌%◌
 use Rattle.std.proofs.lemmas.Bool.{cases_lt, cases_eq, cases_Bool, eq-eqb, ne_eqb, le-leb, lt-leb, ltb-false}
 use Rattle.std.proofs.lemmas.Nat.{pow_pos, mul-le, mod-mul-add}
 use Rattle.rounding.specs.Format.{Format, infinity, sign_weight, negative, size, joined, value, is_nan}
-use Rattle.rounding.specs.Exact.{Exact, less_signed, Less, Same, Between, worth}
+use Rattle.rounding.specs.Exact.{Exact, LessSigned, Less, Same, Between, worth}
 use Rattle.rounding.specs.Rules.{Meaning, Lawful}
 use Rattle.rounding.specs.Rounding.{Outcome, low, chosen, settled, raised, rounded, rounded_size}
 use Rattle.rounding.specs.Laws.{Proper, Valued, KeepsValues, Neighbours, SameAnswers, RisingAnswers}
@@ -137,7 +137,7 @@ neighbours f m v y proper law dp ok w =
     (subst (λ (e : Exact). Between (worth f y) e v) (worth_joined f v.negative r proper.0 t.top_le) w)
 
 -- two values of which neither is less, not both zero, have one sign and equal cross products
-same_parts : (s t : Bool) (a b c d : ℕ) → 0 < a + c → (less_signed s t a b c d → ⊥) → (less_signed t s c d a b → ⊥) → (s ≡ t) × (a * d ≡ c * b)
+same_parts : (s t : Bool) (a b c d : ℕ) → 0 < a + c → (LessSigned s t a b c d → ⊥) → (LessSigned t s c d a b → ⊥) → (s ≡ t) × (a * d ≡ c * b)
 same_parts false false a b c d some p q = (refl, omega arith)
 same_parts true true a b c d some p q = (refl, omega arith)
 same_parts true false a b c d some p q = absurd (p some)
@@ -207,7 +207,7 @@ sizes_rise f m s a b c d hp law bp dp lt =
     settled_rise m s (infinity f) (chosen m s f.hidden (a * k) b) (chosen m s f.hidden (c * k) d)
     (chosen_rise f.hidden (a * k) b (c * k) d hp bp dp m s law (omega (arith, mul-lt-mul_of_pos_right lt (pow_pos f.scale))))
 
-rise : (f : Format) (m : Meaning) (s t : Bool) (a b c d : ℕ) → 0 < f.hidden → Lawful m → 0 < b → 0 < d → less_signed s t a b c d → Less (valued f t (settled m t (infinity f) (chosen m t f.hidden (c * 2 ^ f.scale) d))) (valued f s (settled m s (infinity f) (chosen m s f.hidden (a * 2 ^ f.scale) b))) → ⊥
+rise : (f : Format) (m : Meaning) (s t : Bool) (a b c d : ℕ) → 0 < f.hidden → Lawful m → 0 < b → 0 < d → LessSigned s t a b c d → Less (valued f t (settled m t (infinity f) (chosen m t f.hidden (c * 2 ^ f.scale) d))) (valued f s (settled m s (infinity f) (chosen m s f.hidden (a * 2 ^ f.scale) b))) → ⊥
 rise f m false false a b c d hp law bp dp lt back =
     let x : ℕ = settled m false (infinity f) (chosen m false f.hidden (a * 2 ^ f.scale) b) in
     let y : ℕ = settled m false (infinity f) (chosen m false f.hidden (c * 2 ^ f.scale) d) in

@@ -10,14 +10,14 @@ pub record Exact : Type 0 where
   pub den : ℕ
 
 -- one is less than the other; both zeros are equal
-abbrev pub less_signed : Bool → Bool → (a b c d : ℕ) → Type 0
-less_signed false false a b c d = a * d < c * b
-less_signed true true a b c d = c * b < a * d
-less_signed true false a b c d = 0 < a + c
-less_signed false true a b c d = ⊥
+abbrev pub LessSigned : Bool → Bool → (a b c d : ℕ) → Type 0
+LessSigned false false a b c d = a * d < c * b
+LessSigned true true a b c d = c * b < a * d
+LessSigned true false a b c d = 0 < a + c
+LessSigned false true a b c d = ⊥
 
 abbrev pub Less : Exact → Exact → Type 0
-Less v w = less_signed v.negative w.negative v.num v.den w.num w.den
+Less v w = LessSigned v.negative w.negative v.num v.den w.num w.den
 
 -- neither is less
 abbrev pub Same : Exact → Exact → Type 0
