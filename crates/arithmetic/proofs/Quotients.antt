@@ -1,11 +1,10 @@
 -- Which quotients are rounded, and what the rounding is given.
-use Rattle.std.proofs.Common.{◌≡◌, ℕ, ◌+◌, ◌-◌, ◌*◌, ◌/◌, ◌%◌, ◌^◌, ◌<◌, ◌≤◌, Bool, true, false, cond, not, ◌&&◌, eqb, ltb, leb, ◌⊎◌, sym, refl, ap, ◌∙◌, subst, inl, inr, ⊎_elim, arith, lit<}
-use Rattle.std.proofs.lemmas.Bool.{cases_lt, cases_eq, eqb-true, eqb-false, eq-eqb, ne_eqb, ltb-true, leb-true, lt-ltb, le-ltb, and_parts, not-true}
+use Rattle.std.proofs.Common.{◌≡◌, ℕ, ◌+◌, ◌*◌, ◌/◌, ◌^◌, ◌<◌, ◌≤◌, Bool, true, false, cond, not, ◌&&◌, eqb, ltb, leb, sym, refl, ap, ◌∙◌, arith, lit<}
+use Rattle.std.proofs.lemmas.Bool.{eqb-true, eqb-false, ne_eqb, ltb-true, leb-true, lt-ltb, le-ltb, and_parts, not-true}
 use Rattle.std.proofs.lemmas.Nat.{le-div}
 use Rattle.rounding.specs.Format.{binary32, size, joined, value, is_finite, is_zero}
-use Rattle.rounding.specs.Exact.{Exact}
 use Rattle.rounding.specs.Rules.{Meaning, Lawful}
-use Rattle.rounding.specs.Rounding.{Outcome, rounded}
+use Rattle.rounding.specs.Rounding.{rounded}
 use Rattle.rounding.proofs.Values.{value_low, value_lt}
 use Rattle.rounding.proofs.Faithful.{rounded_zero}
 use Rattle.rounding.specs.Truncation.{Near}

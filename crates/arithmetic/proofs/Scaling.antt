@@ -1,12 +1,12 @@
 -- Significands brought to 24 bits.
-use Rattle.std.proofs.Common.{◌≡◌, ℕ, zero, suc, ◌+◌, ◌-◌, ◌*◌, ◌/◌, ◌%◌, ◌^◌, ◌<◌, ◌≤◌, ◌⊎◌, sym, refl, ap, ◌∙◌, subst, inl, inr, ⊎_elim, mul-le-mul_right, mod-eq_of_lt, mul-le-mul_left, mul-lt-mul_of_pos_right, add-one, arith, lit<, lit≤}
+use Rattle.std.proofs.Common.{◌≡◌, ℕ, suc, ◌+◌, ◌-◌, ◌*◌, ◌%◌, ◌^◌, ◌<◌, ◌≤◌, sym, ap, ◌∙◌, subst, ⊎_elim, mul-le-mul_right, mod-eq_of_lt, mul-le-mul_left, mul-lt-mul_of_pos_right, add-one, arith, lit<}
 use lib.Count.{count_leading_zeros}
 use native.Mathlib.Nat.{pow-le-pow_right}
 use Rattle.std.proofs.lemmas.Bool.{cases_lt, lt-ltb, le-ltb}
-use Rattle.std.proofs.lemmas.Nat.{pow_pos, pow-add, leading_top, leading_le, mul-le}
+use Rattle.std.proofs.lemmas.Nat.{pow_pos, pow-add, leading_top}
 use Rattle.rounding.specs.Format.{significand, shift, value}
 use Rattle.rounding.specs.Rounding.{doublings}
-use Rattle.rounding.proofs.Values.{pow_next, Laid, laid}
+use Rattle.rounding.proofs.Values.{pow_next}
 use Rattle.rounding.proofs.Places.{doubled}
 use Rattle.rounding.proofs.Cuts.{pow_below_inv}
 use Rattle.arithmetic.specs.Defined.{aligned}

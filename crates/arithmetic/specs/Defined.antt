@@ -1,7 +1,7 @@
 -- The defined quotient and square, their flags, and what a quotient asks its engine.
-use Rattle.std.specs.Prelude.{◌≡◌, ℕ, ◌+◌, ◌-◌, ◌*◌, ◌^◌, Bool, true, false, cond, not, ◌&&◌, ◌||◌, nat_le}
+use Rattle.std.specs.Prelude.{◌≡◌, ℕ, ◌*◌, ◌^◌, Bool, true, false, cond, not, ◌&&◌, ◌||◌, nat_le}
 use Rattle.rounding.specs.declared.round.Answer.{Answer}
-use Rattle.rounding.specs.Format.{Format, binary32, negative, size, joined, infinity, quiet, value, significand, is_nan, is_infinite, is_finite, is_zero}
+use Rattle.rounding.specs.Format.{Format, negative, size, joined, infinity, quiet, value, significand, is_nan, is_infinite, is_finite, is_zero}
 use Rattle.rounding.specs.Exact.{Exact}
 use Rattle.rounding.specs.Rules.{Meaning}
 use Rattle.rounding.specs.Rounding.{Outcome, rounded, doublings}

@@ -2,7 +2,7 @@
 use Rattle.std.proofs.Common.{◌≡◌, ℕ, ◌+◌, ◌-◌, ◌*◌, ◌/◌, ◌^◌, ◌<◌, ◌≤◌, Bool, true, ◌&&◌, ltb, leb, refl, mul-le-mul_left, arith}
 use Rattle.std.proofs.lemmas.Bool.{and_parts, leb-true, ltb-true}
 use Rattle.cubic.specs.Polynomial.{high, Value, Valued}
-use Rattle.cubic.specs.Reciprocal.{gap, Start}
+use Rattle.cubic.specs.Reciprocal.{Start}
 use Rattle.cubic.proofs.Ranges.{all, each}
 
 -- every part is in range at x

@@ -1,5 +1,5 @@
 -- Decimals without leading zeros are the digits of their number.
-use Rattle.std.proofs.Common.{◌≡◌, ℕ, zero, suc, ◌+◌, ◌-◌, ◌*◌, ◌/◌, ◌%◌, ◌^◌, ◌<◌, ◌≤◌, ◌⊎◌, List, [], ◌∷◌, ◌++◌, length, get_or, decimal, sym, ap, ◌∙◌, subst, ⊎_elim, mod-eq_of_lt, pow-suc, add-one, arith}
+use Rattle.std.proofs.Common.{◌≡◌, ℕ, zero, suc, ◌+◌, ◌-◌, ◌*◌, ◌/◌, ◌%◌, ◌^◌, ◌<◌, ◌≤◌, List, [], ◌∷◌, ◌++◌, length, get_or, decimal, sym, ap, ◌∙◌, subst, ⊎_elim, mod-eq_of_lt, pow-suc, add-one, arith}
 use native.Mathlib.Nat.{one-le-pow, pow-le-pow_right}
 use Rattle.lex.proofs.Places.{digits_push, length_digits, pow_next, solid_digits}
 use Rattle.lex.specs.Numbers.{Unpadded, digit, digits}

@@ -1,5 +1,5 @@
 -- Lemmas on the digits of a number.
-use Rattle.std.proofs.Common.{◌≡◌, ℕ, zero, suc, ◌+◌, ◌*◌, ◌/◌, ◌%◌, ◌^◌, ◌<◌, ◌≤◌, ◌⊎◌, List, [], ◌∷◌, ◌++◌, length, get_or, take, sym, refl, ap, ◌∙◌, ⊎_elim, mul-le-mul_right, mod-lt, pow-suc, div-add-mod', add-one, arith}
+use Rattle.std.proofs.Common.{◌≡◌, ℕ, zero, suc, ◌+◌, ◌*◌, ◌/◌, ◌%◌, ◌^◌, ◌<◌, ◌≤◌, List, [], ◌∷◌, ◌++◌, length, get_or, take, sym, refl, ap, ◌∙◌, ⊎_elim, mul-le-mul_right, mod-lt, pow-suc, div-add-mod', add-one, arith}
 use native.Mathlib.Nat.{pow-le-pow_left, pow-le-pow_right, pow-zero}
 use lib.Arith.{digits_div, digits_mod}
 use Rattle.lex.specs.Numbers.{digit, digits}

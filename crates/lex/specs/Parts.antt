@@ -1,5 +1,5 @@
 -- How the parts of a line stand together.
-use Rattle.std.specs.Prelude.{◌≡◌, ℕ, ◌<◌, List, [], ◌∷◌, ◌++◌, length, ◌≢◌, slice_index}
+use Rattle.std.specs.Prelude.{ℕ, ◌<◌, List, [], ◌∷◌, ◌++◌, length, ◌≢◌, slice_index}
 
 -- x between a head and a closing parenthesis
 abbrev pub group : List ℕ → List ℕ → List ℕ

@@ -1,7 +1,7 @@
 -- Why the whole quotient of a mean's pair, with the digits that were cut off, stands for the exact mean.
-use Rattle.std.proofs.Common.{◌≡◌, ℕ, ◌+◌, ◌-◌, ◌*◌, ◌/◌, ◌%◌, ◌^◌, ◌<◌, ◌≤◌, Bool, true, false, cond, not, ◌||◌, eqb, ltb, ◌⊎◌, sym, refl, ap, ◌∙◌, subst, inl, inr, ⊎_elim, mul-le-mul_right, mod-lt, mul-lt-mul_of_pos_right, mul-one, arith, lit<}
-use Rattle.std.proofs.lemmas.Bool.{cases_lt, cases_eq, eq-eqb, ne_eqb, lt-ltb, le-ltb}
-use Rattle.std.proofs.lemmas.Nat.{pow_pos, pow-add, div-add-mod', mul-le}
+use Rattle.std.proofs.Common.{◌≡◌, ℕ, ◌+◌, ◌*◌, ◌/◌, ◌%◌, ◌^◌, ◌<◌, ◌≤◌, Bool, not, ◌||◌, eqb, ltb, sym, ap, ◌∙◌, ⊎_elim, mul-le-mul_right, mod-lt, mul-one, arith, lit<}
+use Rattle.std.proofs.lemmas.Bool.{cases_eq, eq-eqb, ne_eqb, lt-ltb}
+use Rattle.std.proofs.lemmas.Nat.{pow_pos, div-add-mod', mul-le}
 use Rattle.rounding.specs.Truncation.{Near}
 use Rattle.arithmetic.proofs.Nearness.{near_ratio}
 

@@ -1,22 +1,21 @@
 -- What a mean's answer and question come to.
-use Rattle.std.proofs.Common.{◌≡◌, ℕ, ◌+◌, ◌-◌, ◌*◌, ◌/◌, ◌%◌, ◌^◌, ◌<◌, ◌≤◌, Bool, true, false, cond, not, ◌||◌, eqb, ltb, List, [], ◌∷◌, length, ℤ, pos, negsuc, nat_abs, sum_by, sym, refl, ap, ◌∙◌, subst, arith, lit<}
+use Rattle.std.proofs.Common.{◌≡◌, ℕ, ◌*◌, ◌^◌, ◌<◌, ◌≤◌, Bool, true, false, not, ◌||◌, eqb, List, [], ◌∷◌, length, ℤ, pos, negsuc, nat_abs, sym, refl, ap, ◌∙◌, subst, arith, lit<}
 use Rattle.std.proofs.lemmas.Bool.{eq-eqb, ne_eqb, le-leb, lt-ltb}
 use Rattle.std.proofs.lemmas.Nat.{pow_pos, mul-le}
 use Rattle.engines.specs.Band.{in_range, quotient as whole_part}
-use Rattle.engines.specs.Meaning.{counted, noted}
+use Rattle.engines.specs.Meaning.{counted}
 use Rattle.engines.specs.declared.meaning.Log.{Log}
 use Rattle.rounding.specs.declared.encoding.Encoding.{Encoding}
 use Rattle.rounding.specs.Format.{binary32, joined}
-use Rattle.rounding.specs.Exact.{Exact}
 use Rattle.rounding.specs.Rules.{Meaning, Lawful}
-use Rattle.rounding.specs.Rounding.{Outcome, rounded}
+use Rattle.rounding.specs.Rounding.{rounded}
 use Rattle.rounding.specs.Truncation.{Near}
 use Rattle.rounding.proofs.Faithful.{rounded_zero}
 use Rattle.arithmetic.specs.Defined.{aligned}
 use Rattle.arithmetic.proofs.Scaling.{aligned_only}
-use Rattle.arithmetic.proofs.Quotients.{Ranged, ranged}
+use Rattle.arithmetic.proofs.Quotients.{ranged}
 use Rattle.places.specs.Asking.{Asks, Scales}
-use Rattle.window.specs.Replies.{total, total_squares, below_zero, sum_z}
+use Rattle.window.specs.Replies.{below_zero, sum_z}
 use Rattle.means.specs.Defined.{sum_log, sum_dividend, mean_log, mean_square_log}
 use Rattle.means.proofs.Asking.{dividend_only}
 use Rattle.means.proofs.Nearness.{mean_near}

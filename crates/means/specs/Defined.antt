@@ -1,5 +1,5 @@
 -- The defined mean and mean square of standing replies, and what they ask the engine.
-use Rattle.std.specs.Prelude.{ℕ, ◌+◌, ◌-◌, ◌*◌, ◌/◌, ◌^◌, false, cond, List, length, ◌==◌, unsigned_abs}
+use Rattle.std.specs.Prelude.{ℕ, ◌-◌, ◌*◌, ◌/◌, ◌^◌, false, cond, List, length, ◌==◌, unsigned_abs}
 use Rattle.rounding.specs.declared.encoding.Encoding.{Encoding}
 use Rattle.rounding.specs.Format.{binary32}
 use Rattle.rounding.specs.Exact.{Exact}

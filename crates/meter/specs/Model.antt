@@ -1,11 +1,10 @@
 -- The reference model of a meter: its address, whether a poll is pending, and the standing replies. It is fed what each call is
 -- given, and no answer.
-use Rattle.std.specs.Prelude.{ℕ, ◌+◌, ◌-◌, Bool, true, false, cond, not, List, [], ◌∷◌, ◌++◌, length, take, drop, Some, None, Option, ◌==◌, nat_le}
+use Rattle.std.specs.Prelude.{ℕ, ◌-◌, Bool, true, false, cond, not, List, [], ◌∷◌, ◌++◌, length, take, drop, Some, None, Option, ◌==◌, nat_le}
 use Rattle.rounding.specs.declared.encoding.Encoding.{Encoding}
 use Rattle.rounding.specs.Format.{binary32, is_finite}
 use Rattle.meter.specs.declared.call.Call.{Call}
 use Rattle.meter.specs.declared.call.Call.TheVariants.{Poll, Repeat, Reply, Lapse, Retire, Retract, Quotient, Square, Mean, MeanSquare}
-use Rattle.meter.specs.declared.call.NamedPoll.{NamedPoll}
 use Rattle.meter.specs.Attempts.{attempt_number}
 
 pub record Model : Type 0 where

@@ -1,6 +1,6 @@
 -- The signed-digit recurrence, over plain numbers.
 use Prim.Native.Nat.{ℕ, ◌+◌, ◌*◌, ◌^◌, ◌<◌, ◌≤◌}
-use mathlib.Core.Path.{◌≡◌, ap, subst}
+use mathlib.Core.Path.{◌≡◌, ap}
 use native.Mathlib.Omega.{arith}
 use native.Mathlib.Nat.{le_of_mul-le-mul_right, mul-le-mul_left, pow-le-pow_right}
 use lib.Dec.{lit≤}

@@ -1,5 +1,5 @@
 -- Copying a list into an array, place by place.
-use Rattle.std.proofs.Common.{◌≡◌, ℕ, zero, suc, ◌+◌, ◌-◌, ◌<◌, ◌≤◌, List, [], ◌∷◌, ◌++◌, length, take, drop, set, replicate, Some, None, sym, refl, ap, ◌∙◌, subst, arith}
+use Rattle.std.proofs.Common.{◌≡◌, ℕ, zero, suc, ◌+◌, ◌-◌, ◌<◌, List, [], ◌∷◌, ◌++◌, length, take, set, replicate, Some, None, sym, refl, ap, arith}
 use Rattle.std.specs.List.{slice_get}
 
 pub filled_more : {A : Type 0} (xs : List A) (n i : ℕ) (x z : A) → slice_get xs i ≡ Some x → i < n → set (take i xs ++ replicate (n - i) z) i x ≡ take (i + 1) xs ++ replicate (n - (i + 1)) z

@@ -1,22 +1,17 @@
 -- The promise over whole runs, from what each step tells of its call.
-use Rattle.std.proofs.Common.{◌≡◌, ℕ, zero, suc, ◌+◌, ◌-◌, ◌*◌, ◌^◌, ◌<◌, ◌≤◌, Bool, true, false, cond, List, [], ◌∷◌, ◌++◌, length, take, drop, replicate, Some, None, Option, sym, refl, ap, ◌∙◌, subst, add-one, arith, lit<}
+use Rattle.std.proofs.Common.{◌≡◌, ℕ, zero, suc, ◌+◌, ◌-◌, ◌*◌, ◌^◌, ◌<◌, Bool, List, [], ◌∷◌, ◌++◌, length, take, replicate, Some, sym, refl, ap, ◌∙◌, subst, arith, lit<}
 use Rattle.std.specs.List.{slice_get}
 use Rattle.engines.specs.declared.meaning.Log.{Log}
-use Rattle.rounding.specs.declared.encoding.Encoding.{Encoding}
-use Rattle.rounding.specs.Format.{binary32, joined, infinity}
+use Rattle.rounding.specs.Format.{binary32}
 use Rattle.rounding.specs.Exact.{Exact, Less, Same, Between, worth}
-use Rattle.rounding.specs.Laws.{Valued}
 use Rattle.rounding.specs.Rules.{Meaning, Lawful}
 use Rattle.rounding.specs.Rounding.{Outcome, rounded, chosen, settled, raised, whole, odd, rest}
 use Rattle.rounding.proofs.Faithful.{keeps_values, neighbours, same_answers, rising_answers}
 use Rattle.meter.specs.declared.call.Call.{Call}
-use Rattle.meter.specs.Model.{Model, fresh, refusal, after}
-use Rattle.replay.specs.declared.step.Step.{Step}
-use Rattle.replay.specs.declared.step.Told.{Told}
-use Rattle.replay.specs.declared.step.Told.TheVariants.{Number}
-use Rattle.replay.specs.Calls.{computed, exact_of, answer_of, told, asked, refused_by}
-use Rattle.replay.specs.Runs.{state, asks_of, stands, Right, Written}
-use Rattle.replay.specs.Promise.{Run, before, At, Watched, Answered, Faithful, Alike, Agreeing, Rising, Promise}
+use Rattle.meter.specs.Model.{Model, fresh, after}
+use Rattle.replay.specs.Calls.{asked, refused_by}
+use Rattle.replay.specs.Runs.{state, asks_of, Written}
+use Rattle.replay.specs.Promise.{Run, before, Watched, Answered, Faithful, Alike, Agreeing, Rising, Promise}
 use Rattle.replay.proofs.Tellings.{told_refuses, told_accepted, accepted_number, told_number, number_only}
 
 -- rules of one meaning round alike

@@ -1,15 +1,15 @@
 -- What a call's answer tells: its refusal, its number, its exact value.
-use Rattle.std.proofs.Common.{◌≡◌, ℕ, ◌+◌, ◌-◌, ◌*◌, ◌^◌, ◌<◌, ◌≤◌, Bool, true, false, cond, not, ◌&&◌, eqb, ltb, ◌⊎◌, List, length, Some, None, Option, sym, refl, ap, ◌∙◌, subst, inl, inr, ⊎_elim, arith, lit<}
-use Rattle.std.proofs.lemmas.Bool.{cases_Bool, cases_eq, eqb-true, eqb-false, eq-eqb, ne_eqb, ltb-true, lt-ltb, le-ltb, and_parts, not-true}
+use Rattle.std.proofs.Common.{◌≡◌, ℕ, ◌*◌, ◌^◌, ◌<◌, Bool, true, false, cond, not, ◌&&◌, eqb, length, Some, None, Option, refl, ap, ◌∙◌, subst, arith, lit<}
+use Rattle.std.proofs.lemmas.Bool.{eqb-false, ne_eqb, ltb-true, le-ltb, and_parts, not-true}
 use Rattle.std.proofs.lemmas.Nat.{mul-le, pow_pos}
 use Rattle.rounding.specs.declared.encoding.Encoding.{Encoding}
 use Rattle.rounding.specs.declared.round.Answer.{Answer}
-use Rattle.rounding.specs.Format.{binary32, size, value, is_finite, is_zero}
+use Rattle.rounding.specs.Format.{binary32, size, is_finite, is_zero}
 use Rattle.rounding.specs.Exact.{Exact}
 use Rattle.rounding.specs.Rules.{Meaning}
 use Rattle.rounding.specs.Rounding.{Outcome, rounded}
 use Rattle.arithmetic.specs.Classes.{Tests}
-use Rattle.arithmetic.specs.Defined.{quotient, square, quotient_value, square_value, has_quotient}
+use Rattle.arithmetic.specs.Defined.{quotient_value, square_value, has_quotient}
 use Rattle.arithmetic.proofs.Quotients.{quotient_rounds, square_rounds, divisor_pos}
 use Rattle.means.specs.Defined.{mean_value, mean_square_value}
 use Rattle.meter.specs.declared.call.Call.{Call}

@@ -1,5 +1,5 @@
 -- One call on the reference model: what it answers, which exact value it has, and what the engine is asked.
-use Rattle.std.specs.Prelude.{ℕ, ◌+◌, ◌-◌, cond, List, length, Some, None, Option, ◌==◌}
+use Rattle.std.specs.Prelude.{ℕ, ◌+◌, ◌-◌, cond, length, Some, None, Option, ◌==◌}
 use Rattle.rounding.specs.declared.round.Answer.{Answer}
 use Rattle.rounding.specs.Format.{binary32, is_finite}
 use Rattle.rounding.specs.Exact.{Exact}

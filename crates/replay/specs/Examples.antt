@@ -1,5 +1,5 @@
 -- Worked examples, computed from the definitions that the contracts use: encodings with their flags, and the edges of what is refused.
-use Rattle.std.specs.Prelude.{◌≡◌, ℕ, true, List, [], ◌∷◌, replicate, Some, None}
+use Rattle.std.specs.Prelude.{◌≡◌, ℕ, true, [], ◌∷◌, replicate, Some, None}
 use Rattle.rounding.specs.declared.encoding.Encoding.{Encoding}
 use Rattle.rounding.specs.Format.{binary32}
 use Rattle.rounding.specs.Rules.{even_rule, zero_rule, up_rule}

@@ -1,10 +1,9 @@
 -- The promise over whole runs: what a meter refuses, holds and answers, and how any two answers compare, whatever engines,
 -- rules and calls.
-use Rattle.std.specs.Prelude.{◌≡◌, ℕ, ◌+◌, ◌*◌, ◌<◌, Bool, List, length, take, drop, Some, None}
+use Rattle.std.specs.Prelude.{◌≡◌, ℕ, ◌+◌, ◌<◌, Bool, List, length, take, drop, Some, None}
 use Rattle.std.specs.List.{slice_get}
 use Rattle.engines.specs.declared.meaning.Log.{Log}
 use Rattle.rounding.specs.declared.rest.Rest.{Rest}
-use Rattle.rounding.specs.declared.round.Answer.{Answer}
 use Rattle.rounding.specs.Format.{binary32}
 use Rattle.rounding.specs.Exact.{Exact, Less, Same, Between, worth}
 use Rattle.rounding.specs.Laws.{Valued}

@@ -1,5 +1,5 @@
 -- Runs of calls on the reference model, beside what was written down of them.
-use Rattle.std.specs.Prelude.{◌≡◌, ℕ, ◌+◌, ◌-◌, List, [], ◌∷◌, ◌++◌, length, take, drop, replicate, Some}
+use Rattle.std.specs.Prelude.{◌≡◌, ℕ, ◌-◌, List, [], ◌∷◌, ◌++◌, length, take, drop, replicate, Some}
 use Rattle.std.specs.List.{slice_get}
 use Rattle.engines.specs.declared.meaning.Log.{Log}
 use Rattle.rounding.specs.declared.encoding.Encoding.{Encoding}

@@ -1,6 +1,6 @@
 -- The size that a rule chooses: it rises with the value, keeps what the format has, and is one of the two neighbours.
 use Rattle.std.proofs.Common.{◌≡◌, ℕ, ◌+◌, ◌-◌, ◌*◌, ◌%◌, ◌^◌, ◌<◌, ◌≤◌, Bool, true, false, cond, eqb, ltb, ◌⊎◌, sym, refl, ap, ◌∙◌, subst, inl, inr, ⊎_elim, mul-le-mul_right, lt_of_mul-lt-mul_right, mul-lt-mul_of_pos_right, arith}
-use Rattle.std.proofs.lemmas.Bool.{cases_lt, cases_Bool, lt-ltb, le-ltb, ltb-true, ltb-false}
+use Rattle.std.proofs.lemmas.Bool.{cases_lt, cases_Bool, lt-ltb, le-ltb}
 use Rattle.std.proofs.lemmas.Nat.{pow_pos, mul-le}
 use Rattle.rounding.specs.declared.rest.Rest.{Rest}
 use Rattle.rounding.specs.declared.rest.Rest.TheVariants.{Nothing}
@@ -8,7 +8,7 @@ use Rattle.rounding.specs.Format.{value, significand, shift}
 use Rattle.rounding.specs.Rules.{Meaning, Lawful, rank}
 use Rattle.rounding.specs.Rounding.{place, whole, remainder, unit, rest, low, odd, chosen, settled, raised, inexact_flags, kind}
 use Rattle.rounding.proofs.Values.{value_at, value_le, value_step}
-use Rattle.rounding.proofs.Places.{Split, splits, Low, low_bounds, low_le, low_only, low_laid}
+use Rattle.rounding.proofs.Places.{splits, Low, low_bounds, low_le, low_only, low_laid}
 use Rattle.rounding.proofs.RestKinds.{kind_rise, kind_nothing, rank_only}
 
 one_or_none : (b : Bool) → cond {A = ℕ} b 1 0 ≤ 1

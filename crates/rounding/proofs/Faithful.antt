@@ -1,15 +1,15 @@
 -- The laws of rounding, over every format and every lawful rule.
-use Rattle.std.proofs.Common.{◌≡◌, ℕ, ◌+◌, ◌-◌, ◌*◌, ◌%◌, ◌^◌, ◌<◌, ◌≤◌, Bool, true, false, cond, eqb, ltb, leb, ◌⊎◌, sym, refl, ap, ◌∙◌, subst, inl, inr, ⊎_elim, mul-le-mul_right, mod-lt, mod-eq_of_lt, lt_of_mul-lt-mul_right, mul-lt-mul_of_pos_right, le_of_mul-le-mul_right, arith}
-use Rattle.std.proofs.lemmas.Bool.{cases_lt, cases_eq, cases_Bool, eq-eqb, ne_eqb, le-leb, lt-leb, ltb-false}
+use Rattle.std.proofs.Common.{◌≡◌, ℕ, ◌+◌, ◌*◌, ◌^◌, ◌<◌, ◌≤◌, Bool, true, false, cond, eqb, sym, refl, ap, ◌∙◌, subst, ⊎_elim, mul-le-mul_right, mod-eq_of_lt, lt_of_mul-lt-mul_right, mul-lt-mul_of_pos_right, arith}
+use Rattle.std.proofs.lemmas.Bool.{cases_lt, cases_eq, eq-eqb, ne_eqb, le-leb, lt-leb, ltb-false}
 use Rattle.std.proofs.lemmas.Nat.{pow_pos, mul-le, mod-mul-add}
 use Rattle.rounding.specs.Format.{Format, infinity, sign_weight, negative, size, joined, value, is_nan}
 use Rattle.rounding.specs.Exact.{Exact, LessSigned, Less, Same, Between, worth}
 use Rattle.rounding.specs.Rules.{Meaning, Lawful}
 use Rattle.rounding.specs.Rounding.{Outcome, low, chosen, settled, raised, rounded, rounded_size}
-use Rattle.rounding.specs.Laws.{Proper, Valued, KeepsValues, Neighbours, SameAnswers, RisingAnswers}
-use Rattle.rounding.proofs.Values.{value_le, value_lt, size_lt, value_low}
-use Rattle.rounding.proofs.Places.{Low, low_bounds}
-use Rattle.rounding.proofs.Chosen.{chosen_bounds, chosen_rise, chosen_same, raised_same, settled_rise, Settled, settled_bounds, settled_finite, chosen_exact, raised_exact}
+use Rattle.rounding.specs.Laws.{Proper, KeepsValues, Neighbours, SameAnswers, RisingAnswers}
+use Rattle.rounding.proofs.Values.{value_le, size_lt, value_low}
+use Rattle.rounding.proofs.Places.{low_bounds}
+use Rattle.rounding.proofs.Chosen.{chosen_bounds, chosen_rise, chosen_same, raised_same, settled_rise, settled_bounds, settled_finite, chosen_exact, raised_exact}
 
 -- what a size is worth without its sign: num_of / den_of
 abbrev num_of : Format → ℕ → ℕ

@@ -1,11 +1,10 @@
 -- The place of a value, its whole units and its remainder: whoever meets their three properties is them.
-use Rattle.std.proofs.Common.{◌≡◌, ℕ, zero, suc, ◌+◌, ◌-◌, ◌*◌, ◌/◌, ◌%◌, ◌^◌, ◌<◌, ◌≤◌, Bool, true, false, cond, ltb, ◌⊎◌, sym, refl, ap, ◌∙◌, subst, inl, inr, ⊎_elim, mul-le-mul_right, mod-lt, lt_of_mul-lt-mul_right, mul-le-mul_left, mul-lt-mul_of_pos_right, le_of_mul-le-mul_right, add-one, arith}
-use native.Mathlib.Nat.{mul-lt-mul_of_pos_left, div-eq_of_lt-le, pow-le-pow_right}
+use Rattle.std.proofs.Common.{◌≡◌, ℕ, zero, suc, ◌+◌, ◌*◌, ◌/◌, ◌%◌, ◌^◌, ◌<◌, ◌≤◌, true, false, ltb, ◌⊎◌, sym, refl, ap, ◌∙◌, subst, inl, inr, ⊎_elim, mul-le-mul_right, mod-lt, lt_of_mul-lt-mul_right, mul-lt-mul_of_pos_right, add-one, arith}
 use Rattle.std.proofs.lemmas.Bool.{cases_lt, cases_Bool, ltb-true, ltb-false}
-use Rattle.std.proofs.lemmas.Nat.{pow_pos, div-add-mod', mul-le, div-mul-add, mod-mul-add}
+use Rattle.std.proofs.lemmas.Nat.{pow_pos, div-add-mod', mul-le}
 use Rattle.rounding.specs.Rounding.{doublings, place, unit, whole, remainder, low}
 use Rattle.rounding.specs.Format.{significand, shift, value}
-use Rattle.rounding.proofs.Values.{pow_next, value_at, value_lt, value_le, Laid, laid, laid_only}
+use Rattle.rounding.proofs.Values.{pow_next, value_at, value_le, Laid, laid_only}
 
 pub doubled : (n a c : ℕ) → a < c * 2 ^ n → (a < c * 2 ^ doublings n a c) × ((doublings n a c ≡ 0) ⊎ (c * 2 ^ doublings n a c ≤ 2 * a))
 unfolding doublings

@@ -1,10 +1,8 @@
 -- A truncated value, cut at its place: place, whole units and rest are the defined ones.
-use Rattle.std.proofs.Common.{◌≡◌, ℕ, suc, ◌+◌, ◌-◌, ◌*◌, ◌^◌, ◌<◌, ◌≤◌, Bool, true, false, cond, ◌||◌, ltb, ◌⊎◌, sym, refl, ap, ◌∙◌, subst, inl, inr, ⊎_elim, arith, lit<}
+use Rattle.std.proofs.Common.{◌≡◌, ℕ, ◌+◌, ◌-◌, ◌*◌, ◌^◌, ◌<◌, ◌≤◌, Bool, true, false, cond, ◌||◌, ltb, ◌⊎◌, sym, ap, ◌∙◌, subst, inl, inr, ⊎_elim, arith}
 use Rattle.std.proofs.lemmas.Bool.{cases_eq, lt-ltb, le-ltb}
 use Rattle.std.proofs.lemmas.Nat.{pow_pos, pow-add}
-use Rattle.rounding.specs.declared.rest.Rest.{Rest}
-use Rattle.rounding.specs.declared.rest.Rest.TheVariants.{Nothing, UnderHalf, Half, OverHalf}
-use Rattle.rounding.specs.Rounding.{place, whole, remainder, unit, rest, kind}
+use Rattle.rounding.specs.Rounding.{place, whole, unit, rest, kind}
 use Rattle.rounding.specs.Truncation.{Near, Cut, rest_of}
 use Rattle.rounding.proofs.Values.{pow_next}
 use Rattle.rounding.proofs.Places.{Split, split_only}

@@ -1,5 +1,5 @@
 -- What rounding promises, over every format and every lawful rule.
-use Rattle.std.specs.Prelude.{◌≡◌, ℕ, ◌+◌, ◌*◌, ◌<◌, Bool, true, false}
+use Rattle.std.specs.Prelude.{◌≡◌, ℕ, ◌*◌, ◌<◌, false}
 use Rattle.rounding.specs.Format.{Format, sign_weight, is_nan}
 use Rattle.rounding.specs.Exact.{Exact, Less, Same, Between, worth}
 use Rattle.rounding.specs.Rules.{Meaning, Lawful}

@@ -1,5 +1,5 @@
 -- What a calculation comes to, and which it refuses.
-use Rattle.std.specs.Prelude.{ℕ, Some, None, Option}
+use Rattle.std.specs.Prelude.{ℕ, None, Option}
 use Rattle.arithmetic.specs.Defined.{quotient, quotient_log, square}
 use Rattle.means.specs.Defined.{mean, mean_square, mean_log, mean_square_log}
 use Rattle.engines.specs.declared.meaning.Log.{Log}

@@ -1,11 +1,8 @@
 -- A greater size has a greater value, so encodings are ordered as their ranks.
-use Rattle.std.proofs.Common.{◌≡◌, ℕ, zero, suc, ◌+◌, ◌-◌, ◌*◌, ◌^◌, ◌<◌, ◌≤◌, Bool, true, false, cond, ltb, ◌⊎◌, ℤ, pos, neg_ℤ, refl, ap, ◌∙◌, subst, ⊎_elim, add-one, arith, lit<}
-use native.Mathlib.Nat.{pow-succ'}
+use Rattle.std.proofs.Common.{◌≡◌, ℕ, ◌+◌, ◌-◌, ◌<◌, ◌≤◌, Bool, true, false, cond, ltb, ℤ, pos, neg_ℤ, refl, ◌∙◌, ⊎_elim, arith, lit<}
 use lib.Signed.{lt_z}
 use borrow.Author.Differences.{up, down, ints, true_is_lt, false_is_lt}
-use Rattle.std.proofs.lemmas.Bool.Decides.{nat_tests}
 use Rattle.std.proofs.lemmas.Bool.{cases_lt, lt-ltb, le-ltb}
-use Rattle.std.proofs.lemmas.Nat.{pow_pos}
 use Rattle.rounding.specs.declared.encoding.Encoding.{Encoding}
 use Rattle.rounding.specs.Format.{binary32, negative, size, significand, shift, value}
 use Rattle.rounding.proofs.Values.{value_lt as lesser-value, value_le as lesser-or-equal-value}

@@ -1,4 +1,4 @@
-use Rattle.std.proofs.Common.{◌≡◌, ℕ, ◌*◌, ◌^◌, Bool, cond, not, eqb, sym, refl, ap, ◌∙◌, arith}
+use Rattle.std.proofs.Common.{ℕ, ◌*◌, ◌^◌, Bool, not, eqb, sym, refl, ap, ◌∙◌, arith}
 use Rattle.rounding.specs.Format.{binary32, size, joined, value, significand}
 use Rattle.rounding.specs.Truncation.{Near}
 use Rattle.rounding.specs.Rounding.{Outcome, chosen, settled, raised}

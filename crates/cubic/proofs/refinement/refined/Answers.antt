@@ -1,4 +1,4 @@
-use Rattle.std.proofs.Common.{◌≡◌, suc, ◌+◌, ◌-◌, ◌*◌, ◌^◌, ◌≤◌, arith}
+use Rattle.std.proofs.Common.{suc, ◌+◌, ◌-◌, ◌*◌, ◌^◌, arith}
 use Rattle.cubic.specs.Reciprocal.{gap}
 use Rattle.cubic.proofs.Newton.{tighter, moved, modest, begins}
 use Rattle.cubic.proofs.refinement.refined.Goals as goal

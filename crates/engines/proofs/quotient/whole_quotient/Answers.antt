@@ -1,4 +1,3 @@
-use Rattle.std.proofs.Common.{rules}
 use Rattle.engines.specs.Band.{in_range}
 use Rattle.engines.proofs.Correction.{lowered_by, kept_by}
 use Rattle.engines.proofs.quotient.whole_quotient.Goals as goal

@@ -1,11 +1,10 @@
-use Rattle.std.proofs.Common.{◌≡◌, ℕ, ◌*◌, ◌^◌, ◌<◌, true, sym, ap, ◌∙◌, arith}
+use Rattle.std.proofs.Common.{◌≡◌, ℕ, ◌*◌, ◌^◌, ◌<◌, ap, ◌∙◌, arith}
 use Rattle.std.proofs.lemmas.Nat.{pow_pos, mul-le}
-use Rattle.engines.specs.Band.{in_range, quotient as whole_part}
+use Rattle.engines.specs.Band.{quotient as whole_part}
 use Rattle.engines.specs.Meaning.{noted}
-use Rattle.rounding.specs.Truncation.{Near}
 use Rattle.rounding.proofs.Truncations.{near_like}
 use Rattle.places.specs.Asking.{Scales}
-use Rattle.arithmetic.proofs.Quotients.{ranged, asked_log}
+use Rattle.arithmetic.proofs.Quotients.{ranged}
 use Rattle.means.proofs.Sums.{in_range_from, sum_near}
 use Rattle.means.proofs.answering.divide_sum.Goals as goal
 

@@ -1,4 +1,4 @@
-use Rattle.std.proofs.Common.{◌≡◌, ℕ, ◌<◌, ◌≤◌, length, nat_abs, sym, arith, rules}
+use Rattle.std.proofs.Common.{◌<◌, length, nat_abs, sym, arith, rules}
 use Rattle.window.specs.Replies.{total, below_zero}
 use Rattle.window.specs.Window.{standing}
 use Rattle.window.proofs.Facts.{standing_few}

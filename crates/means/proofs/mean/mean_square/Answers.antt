@@ -1,4 +1,4 @@
-use Rattle.std.proofs.Common.{◌≡◌, ℕ, ◌<◌, ◌≤◌, false, length, sym, refl, arith, rules}
+use Rattle.std.proofs.Common.{◌<◌, false, length, sym, refl, arith, rules}
 use Rattle.window.specs.Replies.{total_squares}
 use Rattle.window.specs.Window.{standing}
 use Rattle.window.proofs.Facts.{standing_few}

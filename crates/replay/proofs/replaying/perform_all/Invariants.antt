@@ -1,4 +1,4 @@
-use Rattle.std.proofs.Common.{◌≡◌, length}
+use Rattle.std.proofs.Common.{◌≡◌}
 use Rattle.meter.specs.Meters.{model}
 use Rattle.replay.proofs.Writing.{Progress}
 use Rattle.replay.proofs.replaying.perform_all.Given as goal

@@ -1,4 +1,3 @@
-use Rattle.std.proofs.Common.{◌≡◌, length, arith}
 use Rattle.replay.specs.Promise.{Run}
 use Rattle.replay.proofs.Promises.{promise, watched}
 use Rattle.replay.proofs.replaying.replay.Goals as goal

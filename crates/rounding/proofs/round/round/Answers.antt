@@ -1,4 +1,4 @@
-use Rattle.std.proofs.Common.{◌≡◌, ℕ, ◌<◌, sym, ap, ◌∙◌, arith, lit<}
+use Rattle.std.proofs.Common.{ℕ, ◌<◌, sym, ap, ◌∙◌, lit<}
 use Rattle.rounding.specs.Format.{binary32, joined}
 use Rattle.rounding.specs.Truncation.{Near}
 use Rattle.rounding.proofs.Chosen.{finite_answer, overflow_answer}

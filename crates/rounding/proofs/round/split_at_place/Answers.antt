@@ -1,4 +1,4 @@
-use Rattle.std.proofs.Common.{◌≡◌, ℕ, ◌+◌, ◌-◌, ◌<◌, sym, ◌∙◌, arith, lit<}
+use Rattle.std.proofs.Common.{ℕ, ◌+◌, ◌-◌, sym, ◌∙◌, arith, lit<}
 use Rattle.rounding.proofs.Truncations.{near_split, near_like, placed}
 use Rattle.rounding.proofs.round.split_at_place.Goals as goal
 

@@ -1,4 +1,4 @@
-use Rattle.std.proofs.Common.{◌-◌, arith, rules}
+use Rattle.std.proofs.Common.{◌-◌, arith}
 use Rattle.window.proofs.Facts.{standing_few}
 use Rattle.window.specs.Window.{standing}
 use Rattle.session.proofs.Standing.{within}
