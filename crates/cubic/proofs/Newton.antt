@@ -1,7 +1,6 @@
 -- A step of Newton's method, how the error shrinks over several, and the product at the end, over plain numbers.
-use Rattle.std.proofs.Common.{◌≡◌, ℕ, zero, suc, ◌+◌, ◌*◌, ◌/◌, ◌%◌, ◌^◌, ◌<◌, ◌≤◌, ap, subst, inl, inr, mul-le-mul_right, lt_of_mul-lt-mul_right, mul-le-mul_left, mul-lt-mul_of_pos_right, arith, pow_pos, pow_mono}
+use Rattle.std.proofs.Common.{◌≡◌, ℕ, ◌+◌, ◌*◌, ◌/◌, ◌%◌, ◌^◌, ◌<◌, ◌≤◌, ap, subst, inl, inr, mul-le-mul_right, lt_of_mul-lt-mul_right, mul-le-mul_left, mul-lt-mul_of_pos_right, arith, pow_pos, pow_mono}
 use native.Mathlib.Nat.{le_of_mul-le-mul_left}
-use Rattle.std.proofs.lemmas.Nat.{mul-le}
 use Rattle.std.proofs.lemmas.Bool.{cases_lt}
 use Rattle.cubic.specs.Reciprocal.{gap, Start, allowed}
 
@@ -30,31 +29,9 @@ step_error d m t p e =
     bound d (m * t / 2 ^ 55) (m * t % 2 ^ 55) (gap (m * d) (2 ^ 55)) p (omega arith)
     (exact_either d m t (m * t / 2 ^ 55) (m * t % 2 ^ 55) e (omega arith))
 
-pub step_fits : (d m t : ℕ) → 0 < d → t + m * d ≡ 2 ^ 56 → m * t / 2 ^ 55 ≤ 2 ^ 55
-step_fits d m t p e =
-    let x = exact_either d m t (m * t / 2 ^ 55) (m * t % 2 ^ 55) e (omega arith) in
-    let q : 1 ≤ d = p in
-    omega (arith, mul-le-mul_left (m * t / 2 ^ 55) q)
-
--- with j + 1 steps to come, one of them leaves what j allow
-pub tighter : (j d e e' : ℕ) → d < 2 ^ 24 → e ≤ allowed (suc j) → 2 ^ 55 * e' < 2 ^ 55 * d + e * e → e' ≤ allowed j
-tighter zero d e e' h b s = omega (arith, mul-le e e (2 ^ 41 + 2 ^ 25) (2 ^ 41 + 2 ^ 25) b b)
-tighter (suc zero) d e e' h b s = omega (arith, mul-le e e (2 ^ 48) (2 ^ 48) b b)
-tighter (suc (suc zero)) d e e' h b s = omega (arith, mul-le e e (2 ^ 51) (2 ^ 51) b b)
-tighter (suc (suc (suc zero))) d e e' h b s = omega (arith, mul-le e e (2 ^ 52) (2 ^ 52) b b)
-tighter (suc (suc (suc (suc k)))) d e e' h b s = omega (arith, mul-le e e (2 ^ 52) (2 ^ 52) b b)
-
 -- the same number of steps, said otherwise
 pub moved : (j k e : ℕ) → j ≡ k → e ≤ allowed j → e ≤ allowed k
 moved j k e q b = subst (λ (z : ℕ). e ≤ allowed z) q b
-
--- however many steps are to come
-pub modest : (j e : ℕ) → e ≤ allowed j → e ≤ 2 ^ 52
-modest zero e b = omega arith
-modest (suc zero) e b = omega arith
-modest (suc (suc zero)) e b = omega arith
-modest (suc (suc (suc zero))) e b = omega arith
-modest (suc (suc (suc (suc k)))) e b = b
 
 -- where a start of so many bits begins, at the scale of the steps
 pub begins : (bits d m k : ℕ) → Start bits d m → 2 ^ 55 ≤ 2 ^ bits * allowed k → gap (m * 256 * d) (2 ^ 55) ≤ allowed k

@@ -8,6 +8,7 @@ mod refinement;
 mod start;
 
 use engines::{Engine, Log};
+use start::Started;
 
 #[derive(Drop)]
 pub struct Cubic {
@@ -26,11 +27,9 @@ impl Engine for Cubic {
     ghost logged = { λ e. e.log };
 
     fn estimate(&mut self, divisor: u32, dividend: u64) -> u32 {
-        if self.log.note(divisor, dividend) {
-            refinement::estimated(divisor, dividend, start::started(divisor), 9)
-        } else {
-            0
-        }
+        self.log
+            .note(divisor, dividend)
+            .map_or(0, |question| Started::new(question).estimated())
     }
 
     fn log(&self) -> Log {

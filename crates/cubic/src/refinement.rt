@@ -1,43 +1,42 @@
 // From any first reciprocal of stated accuracy to an estimate in the band.
-ghost use Rattle.std.specs.Prelude.{◌≡◌, ◌+◌, ◌*◌, ◌^◌, ◌<◌, ◌≤◌, true};
-ghost use Rattle.engines.specs.Band.{in_range, Band};
-ghost use Rattle.cubic.specs.Reciprocal.{gap, Start, allowed};
+ghost use Rattle.std.specs.Prelude.{◌≡◌, ◌+◌, ◌*◌, ◌^◌, ◌<◌, ◌≤◌};
+ghost use Rattle.engines.specs.Band.{Band};
+ghost use Rattle.cubic.specs.Reciprocal.{gap, allowed};
 
-// The estimate from a start that is right to `bits` bits, 3 or more. The refined reciprocal is off by less than 10 parts in
-// 2^31 either way, which is 10 in the estimate, and cutting takes less than 1.
-pub(crate) fn estimated(divisor: u32, dividend: u64, start: u32, bits: u32) -> u32
-    requires range { in_range divisor dividend ≡ true }
-    requires some { 3 ≤ bits }
-    requires start { Start bits divisor start }
-    ensures { Band divisor dividend result }
-{
-    product(divisor, dividend, refined(divisor, start, bits)) + 11
+use crate::start::Started;
+use engines::Question;
+
+impl Started {
+    // The refined reciprocal is off by less than 10 parts in 2^31 either way, which is 10 in the estimate, and cutting takes less
+    // than 1.
+    pub(crate) fn estimated(self) -> u32
+        ensures { Band self.question.divisor self.question.dividend result }
+    {
+        product(self.question, self.refined()) + 11
+    }
+
+    // The reciprocal at a scale of 2^55, as near as the estimate needs it.
+    fn refined(self) -> u64
+        ensures { gap (result * self.question.divisor) (2 ^ 55) ≤ allowed 0 }
+    {
+        let divisor = self.question.divisor();
+        let needed = steps(self.bits);
+        let mut found = self.reciprocal as u64 * 256;
+        for _done in 0u32..needed {
+            found = step(divisor, found);
+        }
+        found
+    }
 }
 
 // 64 times the quotient, 11 too small at most and 10 too large.
-fn product(divisor: u32, dividend: u64, reciprocal: u64) -> u32
-    requires range { in_range divisor dividend ≡ true }
-    requires near { gap (reciprocal * divisor) (2 ^ 55) ≤ allowed 0 }
-    ensures above { 64 * dividend < (result + 11) * divisor }
-    ensures below { result * divisor ≤ 64 * dividend + 10 * divisor }
+fn product(question: Question, reciprocal: u64) -> u32
+    requires { gap (reciprocal * question.divisor) (2 ^ 55) ≤ allowed 0 }
+    ensures above { 64 * question.dividend < (result + 11) * question.divisor }
+    ensures below { result * question.divisor ≤ 64 * question.dividend + 10 * question.divisor }
     ensures short { result < 2 ^ 31 + 10 }
 {
-    ((dividend as u128 * reciprocal as u128) >> 49) as u32
-}
-
-// The reciprocal at a scale of 2^55, as near as the estimate needs it.
-fn refined(divisor: u32, start: u32, bits: u32) -> u64
-    requires range { (2 ^ 23 ≤ divisor) × (divisor < 2 ^ 24) }
-    requires some { 3 ≤ bits }
-    requires start { Start bits divisor start }
-    ensures { gap (result * divisor) (2 ^ 55) ≤ allowed 0 }
-{
-    let needed = steps(bits);
-    let mut found = start as u64 * 256;
-    for _done in 0u32..needed {
-        found = step(divisor, found);
-    }
-    found
+    ((question.dividend() as u128 * reciprocal as u128) >> 49) as u32
 }
 
 // How many steps a start of so many bits needs: each doubles them.

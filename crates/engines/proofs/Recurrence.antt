@@ -1,5 +1,5 @@
 -- The restoring recurrence, over plain numbers.
-use Rattle.std.proofs.Common.{◌≡◌, ℕ, ◌+◌, ◌*◌, ◌^◌, ◌<◌, ◌≤◌, ap, lt_of_mul-lt-mul_right, arith, pow_pos, pow_mono, pow-add}
+use Rattle.std.proofs.Common.{◌≡◌, ℕ, ◌+◌, ◌*◌, ◌^◌, ◌<◌, ◌≤◌, lt_of_mul-lt-mul_right, arith, pow_pos, pow_mono}
 use native.Mathlib.Nat.{mul-lt-mul_of_pos_left}
 
 -- q bits found after i steps are no more than i
@@ -7,17 +7,9 @@ pub short : (i q w r n : ℕ) → q * w + r ≡ 2 ^ i * n → n < w → q < 2 ^ 
 short i q w r n e h =
     lt_of_mul-lt-mul_right w (omega (arith, mul-lt-mul_of_pos_left {m = n} {n = w} {k = 2 ^ i} h (pow_pos i)))
 
--- one step more doubles
-pub doubled : (i q w r n q' r' : ℕ) → q * w + r ≡ 2 ^ i * n → q' * w + r' ≡ 2 * (q * w + r) → q' * w + r' ≡ 2 ^ (i + 1) * n
-doubled i q w r n q' r' e f = omega (arith, ap (λ (z : ℕ). z * n) (pow-add 2 i 1))
-
 -- with i steps to go, the bits still fit
 pub room : (i q w r n : ℕ) → i < 31 → q * w + r ≡ 2 ^ i * n → n < w → q < 2 ^ 30
 room i q w r n h e k =
     let j : i ≤ 30 = omega arith in
     let p : 2 ^ i ≤ 2 ^ 30 = pow_mono j in
     omega (arith, short i q w r n e k)
-
--- after 31 steps
-pub complete : (i q w r n : ℕ) → 31 ≤ i → i ≤ 31 → q * w + r ≡ 2 ^ i * n → q * w + r ≡ 2 ^ 31 * n
-complete i q w r n lo hi e = let at : i ≡ 31 = omega arith in rw at at e

@@ -6,6 +6,7 @@ ghost use Rattle.engines.specs.Meaning.{none, noted};
 
 use crate::interface::Engine;
 use crate::meaning::Log;
+use crate::question::Question;
 
 #[derive(Drop)]
 pub struct Digits {
@@ -28,11 +29,7 @@ impl Engine for Digits {
         ensures after { self.new.log ≡ noted self.old.log divisor dividend }
         ensures exact { in_range divisor dividend ≡ true → Ceiling divisor dividend result }
     {
-        if self.log.note(divisor, dividend) {
-            rounded_up(divisor, dividend)
-        } else {
-            0
-        }
+        self.log.note(divisor, dividend).map_or(0, rounded_up)
     }
 
     fn log(&self) -> Log {
@@ -48,11 +45,10 @@ struct Partial {
 }
 
 // 64 times the quotient, rounded up.
-fn rounded_up(divisor: u32, dividend: u64) -> u32
-    requires { in_range divisor dividend ≡ true }
-    ensures { Ceiling divisor dividend result }
+fn rounded_up(question: Question) -> u32
+    ensures { Ceiling question.divisor question.dividend result }
 {
-    let whole = developed(divisor as u64 * 33554432, dividend);
+    let whole = developed(question);
     if whole.rest == 0 {
         whole.bits
     } else {
@@ -61,38 +57,40 @@ fn rounded_up(divisor: u32, dividend: u64) -> u32
 }
 
 // 31 bits of the fraction `dividend / wide`: one before its point would be 0.
-fn developed(wide: u64, dividend: u64) -> Partial
-    requires { (wide < 2 ^ 49) × (dividend < wide) }
-    ensures sum { result.bits * wide + result.rest ≡ 2147483648 * dividend }
-    ensures less { result.rest < wide }
+fn developed(question: Question) -> Partial
+    ensures sum { result.bits * (33554432 * question.divisor) + result.rest ≡ 2147483648 * question.dividend }
+    ensures less { result.rest < 33554432 * question.divisor }
     ensures short { result.bits < 2 ^ 31 }
 {
+    let wide = 33554432 * u64::from(question.divisor());
     let mut found = Partial {
         bits: 0,
-        rest: dividend,
+        rest: question.dividend(),
     };
     for _done in 0u32..31 {
-        found = step(found, wide);
+        found = found.step(wide);
     }
     found
 }
 
-// Doubles what is left and takes `wide` away where it can: the next bit says whether it could.
-fn step(found: Partial, wide: u64) -> Partial
-    requires { (wide < 2 ^ 49) × ((found.rest < wide) × (found.bits < 2 ^ 31)) }
-    ensures sum { result.bits * wide + result.rest ≡ 2 * (found.bits * wide + found.rest) }
-    ensures less { result.rest < wide }
-{
-    let doubled = 2 * found.rest;
-    if doubled < wide {
-        Partial {
-            bits: 2 * found.bits,
-            rest: doubled,
-        }
-    } else {
-        Partial {
-            bits: 2 * found.bits + 1,
-            rest: doubled - wide,
+impl Partial {
+    // Doubles what is left and takes `wide` away where it can: the next bit says whether it could.
+    fn step(self, wide: u64) -> Partial
+        requires { (wide < 2 ^ 49) × ((self.rest < wide) × (self.bits < 2 ^ 31)) }
+        ensures sum { result.bits * wide + result.rest ≡ 2 * (self.bits * wide + self.rest) }
+        ensures less { result.rest < wide }
+    {
+        let doubled = 2 * self.rest;
+        if doubled < wide {
+            Partial {
+                bits: 2 * self.bits,
+                rest: doubled,
+            }
+        } else {
+            Partial {
+                bits: 2 * self.bits + 1,
+                rest: doubled - wide,
+            }
         }
     }
 }

@@ -6,6 +6,8 @@ ghost use Rattle.engines.specs.declared.meaning.Log.{Log};
 
 use crate::meaning::Log;
 
+// Each engine implements it itself, the three here with a log of their own, by a rule of the project: to write a divider is to write this. A shell
+// that holds the log for any divider would be one more trait to read, and would save a field and a getter.
 pub trait Engine {
     // The engine's meaning. Two engines of one meaning may still answer differently inside the band.
     ghost logged: { Self → Log };

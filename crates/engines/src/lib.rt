@@ -5,8 +5,10 @@
 pub mod digits;
 pub mod interface;
 pub mod meaning;
+pub mod question;
 pub mod quotient;
 
 pub use interface::Engine;
 pub use meaning::Log;
+pub use question::Question;
 pub use quotient::whole_quotient;

@@ -1,7 +1,9 @@
 // An engine's meaning: how many estimates in range it gave, and the pair of the last one.
-ghost use Rattle.std.specs.Prelude.{◌≡◌};
+ghost use Rattle.std.specs.Prelude.{◌≡◌, true, false, MatchOption};
 ghost use Rattle.engines.specs.Band.{in_range};
 ghost use Rattle.engines.specs.Meaning.{none, noted};
+
+use crate::question::Question;
 
 // What an engine has done since it was made. Estimates out of range leave no trace in it.
 #[derive(Clone, Copy)]
@@ -12,6 +14,7 @@ pub struct Log {
 }
 
 impl Log {
+    // No derived Default: that it is `none` is promised here, in the word that every engine's contract uses.
     pub fn new() -> Log
         ensures { result ≡ none }
     {
@@ -22,33 +25,15 @@ impl Log {
         }
     }
 
-    // Takes an estimate down, and says whether it is in range. The count stops at its largest value.
-    pub fn note(&mut self, divisor: u32, dividend: u64) -> bool
-        ensures answer { result ≡ in_range divisor dividend }
+    // Takes an estimate down and gives what was asked, or None where it is out of range. The count stops at its largest value.
+    pub fn note(&mut self, divisor: u32, dividend: u64) -> Option<Question>
+        ensures asked { MatchOption result (in_range divisor dividend ≡ false) (λ q. (in_range divisor dividend ≡ true) × (q.divisor ≡ divisor) × (q.dividend ≡ dividend)) }
         ensures after { self.new ≡ noted self.old divisor dividend }
     {
-        if in_range(divisor, dividend) {
-            self.estimates = self.estimates.saturating_add(1);
-            self.divisor = divisor;
-            self.dividend = dividend;
-            true
-        } else {
-            false
-        }
-    }
-}
-
-// A divisor of exactly 24 bits, and a quotient of exactly 25.
-pub fn in_range(divisor: u32, dividend: u64) -> bool
-    ensures { result ≡ in_range divisor dividend }
-{
-    if divisor < 8388608 || divisor >= 16777216 {
-        return false;
-    }
-    let least = divisor as u64 * 16777216;
-    if dividend < least {
-        false
-    } else {
-        dividend < 2 * least
+        let question = Question::new(divisor, dividend)?;
+        self.estimates = self.estimates.saturating_add(1);
+        self.divisor = divisor;
+        self.dividend = dividend;
+        Some(question)
     }
 }

@@ -193,15 +193,15 @@ module _ (m : Meaning) (s : Bool) (h a b at units : ℕ) (left : Rest) (pj : pla
   unfolding raised
   raised_from top hp bp = simp (chosen_from, rl, tiny_low h a b hp bp, low_from)
 
-  -- what the code has in hand: the low, and the chosen size
-  module _ (l n top : ℕ) (hp : 0 < h) (bp : 0 < b) (le : l ≡ at * h + units) (ne : n ≡ cond (m.grow s (eqb (units % 2) 1) left) 1 0 + l) where
+  -- what the code has in hand: the chosen size n
+  module _ (n top : ℕ) (hp : 0 < h) (bp : 0 < b) (ne : n ≡ cond (m.grow s (eqb (units % 2) 1) left) 1 0 + (at * h + units)) where
     chosen_is : chosen m s h a b ≡ n
-    chosen_is = chosen_from ∙ ap (λ (z : ℕ). cond (m.grow s (eqb (units % 2) 1) left) 1 0 + z) (sym le) ∙ sym ne
+    chosen_is = chosen_from ∙ sym ne
 
-    tiny_is : ltb a (b * h) ≡ ltb l h
-    tiny_is = tiny_low h a b hp bp ∙ ap (λ (z : ℕ). ltb z h) (low_from ∙ sym le)
+    tiny_is : ltb a (b * h) ≡ ltb (at * h + units) h
+    tiny_is = tiny_low h a b hp bp ∙ ap (λ (z : ℕ). ltb z h) low_from
 
-    pub finite_answer : n < top → (settled m s top (chosen m s h a b) ≡ n) × (raised m s h top a b ≡ inexact_flags left (ltb l h))
+    pub finite_answer : n < top → (settled m s top (chosen m s h a b) ≡ n) × (raised m s h top a b ≡ inexact_flags left (ltb (at * h + units) h))
     unfolding raised
     finite_answer lt = (ap (settled m s top) chosen_is ∙ settled_finite m s top n lt, simp (chosen_is, rl, tiny_is, lt-ltb n top lt))
 

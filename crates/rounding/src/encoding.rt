@@ -1,5 +1,5 @@
 // Binary32 encodings: a sign bit, an exponent field of 8 bits and a fraction of 23 bits, read by integer arithmetic alone.
-ghost use Rattle.std.specs.Prelude.{◌≡◌, ◌/◌, ◌%◌};
+ghost use Rattle.std.specs.Prelude.{◌≡◌, ◌/◌, ◌%◌, ◌≤◌};
 ghost use Rattle.rounding.specs.Format.{binary32, negative, size, joined, infinity, quiet, is_nan, is_infinite, is_finite, is_zero, significand, shift};
 
 // The weights of the hidden bit and of the sign bit, and the size of an infinity.
@@ -15,6 +15,7 @@ pub struct Encoding {
 }
 
 impl Encoding {
+    // Constants, by the names that std gives them for its own floats.
     pub const fn from_bits(bits: u32) -> Encoding
         ensures { result.bits ≡ bits }
     {
@@ -27,20 +28,26 @@ impl Encoding {
         self.bits
     }
 
+    // The encoding of a sign and a size.
+    pub(crate) fn with_sign(negative: bool, size: u32) -> Encoding
+        requires { size ≤ 2139095040 }
+        ensures { result.bits ≡ joined binary32 negative size }
+    {
+        Encoding {
+            bits: if negative { SIGN + size } else { size },
+        }
+    }
+
     pub fn infinity(negative: bool) -> Encoding
         ensures { result.bits ≡ joined binary32 negative (infinity binary32) }
     {
-        Encoding {
-            bits: if negative { SIGN + INFINITY } else { INFINITY },
-        }
+        Encoding::with_sign(negative, INFINITY)
     }
 
     pub fn zero(negative: bool) -> Encoding
         ensures { result.bits ≡ joined binary32 negative 0 }
     {
-        Encoding {
-            bits: if negative { SIGN } else { 0 },
-        }
+        Encoding::with_sign(negative, 0)
     }
 
     // The one NaN that is ever answered.
@@ -77,6 +84,7 @@ impl Encoding {
     }
 
     // The fraction, with the hidden bit where the exponent field is not 0.
+    #[tactic(auto, unfolding(crate::specs::Format::significand))]
     pub fn significand(self) -> u32
         ensures { result ≡ significand 8388608 (size binary32 self.bits) }
     {
@@ -88,6 +96,7 @@ impl Encoding {
     }
 
     // By how many doublings a unit of the significand exceeds the smallest subnormal.
+    #[tactic(auto, unfolding(crate::specs::Format::shift))]
     pub fn shift(self) -> u32
         ensures { result ≡ shift 8388608 (size binary32 self.bits) }
     {

@@ -9,6 +9,7 @@ pub struct Flags {
     number: u8,
 }
 
+// Each set is given by a function, since a constant carries no contract.
 impl Flags {
     pub const fn none() -> Flags
         ensures { result.number ≡ 0 }

@@ -1,5 +1,5 @@
-// The five rounding directions of IEEE 754.
-ghost use Rattle.std.specs.Prelude.{◌≡◌};
+// The five rounding directions of IEEE 754. The two directed ones differ in a constant and are one type; the other three in what they answer.
+ghost use Rattle.std.specs.Prelude.{◌≡◌, if◌then◌else◌};
 ghost use Rattle.rounding.specs.Rules.{even_rule, away_rule, zero_rule, up_rule, down_rule, rule_of};
 ghost use Rattle.std.proofs.Common.{rules};
 
@@ -67,45 +67,30 @@ impl Rule for Zero {
     }
 }
 
-// Toward positive infinity.
+// Toward the infinity of the sign.
 #[derive(Clone, Copy)]
-pub struct Up;
+pub struct Directed<const NEGATIVE: bool>;
 
-impl Rule for Up {
-    ghost meaning = { λ _. up_rule };
-
-    ghost lawful = { Prim.search rules };
-
-    fn grows(&self, negative: bool, _odd: bool, rest: Rest) -> bool {
-        match rest {
-            Rest::Nothing => false,
-            Rest::UnderHalf | Rest::Half | Rest::OverHalf => !negative,
-        }
-    }
-
-    fn overflows_to_infinity(&self, negative: bool) -> bool {
-        !negative
-    }
-}
+// Toward positive infinity.
+pub type Up = Directed<false>;
 
 // Toward negative infinity.
-#[derive(Clone, Copy)]
-pub struct Down;
+pub type Down = Directed<true>;
 
-impl Rule for Down {
-    ghost meaning = { λ _. down_rule };
+impl<const NEGATIVE: bool> Rule for Directed<NEGATIVE> {
+    ghost meaning = { λ _. (if NEGATIVE then down_rule else up_rule) };
 
     ghost lawful = { Prim.search rules };
 
     fn grows(&self, negative: bool, _odd: bool, rest: Rest) -> bool {
         match rest {
             Rest::Nothing => false,
-            Rest::UnderHalf | Rest::Half | Rest::OverHalf => negative,
+            Rest::UnderHalf | Rest::Half | Rest::OverHalf => negative == NEGATIVE,
         }
     }
 
     fn overflows_to_infinity(&self, negative: bool) -> bool {
-        negative
+        negative == NEGATIVE
     }
 }
 
@@ -129,8 +114,8 @@ impl Rule for AnyRule {
             AnyRule::Even => Even.grows(negative, odd, rest),
             AnyRule::Away => Away.grows(negative, odd, rest),
             AnyRule::Zero => Zero.grows(negative, odd, rest),
-            AnyRule::Up => Up.grows(negative, odd, rest),
-            AnyRule::Down => Down.grows(negative, odd, rest),
+            AnyRule::Up => Directed::<false>.grows(negative, odd, rest),
+            AnyRule::Down => Directed::<true>.grows(negative, odd, rest),
         }
     }
 
@@ -139,8 +124,8 @@ impl Rule for AnyRule {
             AnyRule::Even => Even.overflows_to_infinity(negative),
             AnyRule::Away => Away.overflows_to_infinity(negative),
             AnyRule::Zero => Zero.overflows_to_infinity(negative),
-            AnyRule::Up => Up.overflows_to_infinity(negative),
-            AnyRule::Down => Down.overflows_to_infinity(negative),
+            AnyRule::Up => Directed::<false>.overflows_to_infinity(negative),
+            AnyRule::Down => Directed::<true>.overflows_to_infinity(negative),
         }
     }
 }

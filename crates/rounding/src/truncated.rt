@@ -12,7 +12,7 @@ pub struct Truncated {
 }
 
 impl Truncated {
-    // Refused where the quotient has fewer than 25 bits.
+    // Refused where the quotient has fewer than 25 bits, by `None`: there is one thing to refuse, and three values make one.
     pub fn new(quotient: u64, scale: u16, cut: bool) -> Option<Truncated>
         ensures { MatchOption result (quotient < 16777216) (λ t. (t.quotient ≡ quotient) × (t.scale ≡ scale) × (t.cut ≡ cut)) }
     {

@@ -3,8 +3,9 @@ use Rattle.radix4.proofs.fourfold.Goals as goal
 
 pub returns : goal.returns
 returns c =
-    let both =
-    near c.args.divisor c.args.dividend c.scaled.result.wide c.developed.result.quotient
-    c.developed.result.rest c.scaled.ensures.wide c.developed.ensures.sum
-    c.developed.ensures.bounded in
-    record { below = both.0; above = both.1; short = c.developed.ensures.short }
+    let both = near _ _ _ _ _ c.of.ensures c.developed.ensures.sum c.developed.ensures.bounded in
+    record {
+      below = rw (← c.dividend.ensures.value) both.0;
+      above = rw (← c.dividend.ensures.value) both.1;
+      short = c.developed.ensures.short;
+    }

@@ -1,19 +1,10 @@
-use Rattle.engines.specs.Band.{in_range}
 use Rattle.engines.proofs.Correction.{lowered_by, kept_by}
 use Rattle.engines.proofs.quotient.whole_quotient.Goals as goal
 
-pub returns-then-candidate-divisor : goal.returns-then-candidate-divisor
-returns-then-candidate-divisor g c = record {
-  value =
-      lowered_by (in_range c.args.divisor c.args.dividend) c.args.divisor c.args.dividend
-      c.estimate-candidate.result c.estimate-candidate.ensures.value c.if-candidate-divisor.true;
-  after = c.estimate-candidate.ensures.after;
-}
+pub returns-then-candidate-divisor-clause-value : goal.returns-then-candidate-divisor-clause-value
+returns-then-candidate-divisor-clause-value g c =
+    lowered_by _ _ _ _ c.estimate-candidate.ensures.value c.if-candidate-divisor.true
 
-pub returns-else-candidate-divisor : goal.returns-else-candidate-divisor
-returns-else-candidate-divisor g c = record {
-  value =
-      kept_by (in_range c.args.divisor c.args.dividend) c.args.divisor c.args.dividend
-      c.estimate-candidate.result c.estimate-candidate.ensures.value c.if-candidate-divisor.false;
-  after = c.estimate-candidate.ensures.after;
-}
+pub returns-else-candidate-divisor-clause-value : goal.returns-else-candidate-divisor-clause-value
+returns-else-candidate-divisor-clause-value g c =
+    kept_by _ _ _ _ c.estimate-candidate.ensures.value c.if-candidate-divisor.false
