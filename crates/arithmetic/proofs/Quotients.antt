@@ -1,6 +1,6 @@
 -- Which quotients are rounded, and what the rounding is given.
 use Rattle.std.proofs.Common.{◌≡◌, ℕ, ◌+◌, ◌*◌, ◌/◌, ◌^◌, ◌<◌, ◌≤◌, Bool, true, false, cond, not, ◌&&◌, eqb, ltb, leb, sym, refl, ap, ◌∙◌, arith, lit<}
-use Rattle.std.proofs.lemmas.Bool.{eqb-true, eqb-false, ne_eqb, ltb-true, leb-true, lt-ltb, le-ltb, and_parts, not-true}
+use Rattle.std.proofs.lemmas.Bool.{eqb-true, eqb-false, ne_eqb, ltb-true, leb-true, lt-ltb, le-ltb, le-leb, and_parts, not-true}
 use Rattle.std.proofs.lemmas.Nat.{le-div}
 use Rattle.rounding.specs.Format.{binary32, size, joined, value, is_finite, is_zero}
 use Rattle.rounding.specs.Rules.{Meaning, Lawful}
@@ -37,9 +37,6 @@ zero_quotient m x y law s t =
 pub no_ask : (x y : ℕ) → Tests x false false true true → Tests y false false true false → asks binary32 x y ≡ false
 no_ask x y s t = simp (s.zero_is, s.finite_is, t.zero_is, t.finite_is)
 
-pub will_ask : (x y : ℕ) → Tests x false false true false → Tests y false false true false → asks binary32 x y ≡ true
-will_ask x y s t = simp (s.zero_is, s.finite_is, t.zero_is, t.finite_is)
-
 number_tests : (x : ℕ) → (size binary32 x < 2139095040) → (size binary32 x ≡ 0 → ⊥) → Tests x false false true false
 number_tests x lt nz =
     record {
@@ -72,6 +69,10 @@ ranged d n e =
     let r = and_parts (leb (16777216 * d) n) (ltb n (33554432 * d)) p.1 in
     let dp : 0 < d = omega (arith, leb-true 8388608 d q.0) in
     record { some = dp; is = simp e; long = le-div 16777216 n d dp (leb-true (16777216 * d) n r.0) }
+
+-- what a question keeps is its range
+pub in_range_of : (d n : ℕ) → (8388608 ≤ d) × (d < 16777216) → (16777216 * d ≤ n) × (n < 33554432 * d) → in_range d n ≡ true
+in_range_of d n p q = simp (le-leb 8388608 d p.0, lt-ltb d 16777216 p.1, le-leb (16777216 * d) n q.0, lt-ltb n (33554432 * d) q.1)
 
 pub asked_log : (log : Log) (d n d' n' : ℕ) → in_range d n ≡ true → d ≡ d' → n ≡ n' → noted log d n ≡ counted log d' n'
 asked_log log d n d' n' e p q = simp e (ap (λ (z : ℕ). counted log z n) p ∙ ap (λ (z : ℕ). counted log d' z) q)

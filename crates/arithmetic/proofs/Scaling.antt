@@ -1,10 +1,10 @@
 -- Significands brought to 24 bits.
-use Rattle.std.proofs.Common.{◌≡◌, ℕ, suc, ◌+◌, ◌-◌, ◌*◌, ◌%◌, ◌^◌, ◌<◌, ◌≤◌, sym, ap, ◌∙◌, subst, ⊎_elim, mul-le-mul_right, mod-eq_of_lt, mul-le-mul_left, mul-lt-mul_of_pos_right, add-one, arith, lit<}
+use Rattle.std.proofs.Common.{◌≡◌, ℕ, suc, ◌+◌, ◌-◌, ◌*◌, ◌%◌, ◌^◌, ◌<◌, ◌≤◌, sym, ap, ◌∙◌, subst, ⊎_elim, false, true, mul-le-mul_right, mod-eq_of_lt, mul-le-mul_left, mul-lt-mul_of_pos_right, add-one, arith, lit<}
 use lib.Count.{count_leading_zeros}
 use native.Mathlib.Nat.{pow-le-pow_right}
-use Rattle.std.proofs.lemmas.Bool.{cases_lt, lt-ltb, le-ltb}
+use Rattle.std.proofs.lemmas.Bool.{cases_lt, lt-ltb, le-ltb, ltb-true, eqb-false}
 use Rattle.std.proofs.lemmas.Nat.{pow_pos, pow-add, leading_top}
-use Rattle.rounding.specs.Format.{significand, shift, value}
+use Rattle.rounding.specs.Format.{binary32, size, is_finite, is_zero, significand, shift, value}
 use Rattle.rounding.specs.Rounding.{doublings}
 use Rattle.rounding.proofs.Values.{pow_next}
 use Rattle.rounding.proofs.Places.{doubled}
@@ -100,9 +100,10 @@ pub record Scales (n s h : ℕ) : Type 0 where
   pub less_than : s * 2 ^ (count_leading_zeros 32 s - 8) < 16777216
   pub worth : value 8388608 n * 8388608 ≡ (s * 2 ^ (count_leading_zeros 32 s - 8)) * 2 ^ (h + 23 - (count_leading_zeros 32 s - 8))
 
-pub scales : (n s h : ℕ) → s ≡ significand 8388608 n → h ≡ shift 8388608 n → 0 < n → n < 2139095040 → Scales n s h
-scales n s h se he np lt =
-    let p = plain_of n np lt in
+pub scales : (x s h : ℕ) → s ≡ significand 8388608 (size binary32 x) → h ≡ shift 8388608 (size binary32 x) → is_finite binary32 x ≡ true → is_zero binary32 x ≡ false → Scales (size binary32 x) s h
+scales x s h se he f z =
+    let n : ℕ = size binary32 x in
+    let p = plain_of n (omega (arith, eqb-false n 0 z)) (ltb-true n 2139095040 f) in
     let l : Lifted s (count_leading_zeros 32 s - 8) = lifted s (omega (arith, p.some)) (omega (arith, p.short)) in
     let k : ℕ = count_leading_zeros 32 s - 8 in
     let v = scaled_value n k l.few in

@@ -12,16 +12,18 @@ pub enum Class {
     Nan,
 }
 
-pub fn class_of(x: Encoding) -> Class
-    ensures { Classed x.bits result }
-{
-    if x.is_zero() {
-        Class::Zero
-    } else if x.is_finite() {
-        Class::Number
-    } else if x.is_infinite() {
-        Class::Infinity
-    } else {
-        Class::Nan
+impl From<Encoding> for Class {
+    ghost from_gives = { λ x class. Classed x.bits class };
+
+    fn from(x: Encoding) -> Class {
+        if x.is_zero() {
+            Class::Zero
+        } else if x.is_finite() {
+            Class::Number
+        } else if x.is_infinite() {
+            Class::Infinity
+        } else {
+            Class::Nan
+        }
     }
 }

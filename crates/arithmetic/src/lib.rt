@@ -3,6 +3,7 @@
 
 mod class;
 mod operand;
+mod plain;
 pub mod quotient;
 pub mod square;
 pub mod standing;

@@ -3,11 +3,11 @@ ghost use Rattle.std.specs.Prelude.{◌≡◌, ◌*◌, ◌^◌, true, false, bi
 ghost use Rattle.rounding.specs.Format.{binary32, is_finite, is_zero};
 ghost use Rattle.arithmetic.specs.Defined.{square, Gives};
 
-use crate::class::{Class, class_of};
+use crate::class::Class;
 use crate::operand::scale_up;
+use crate::plain::silent;
 use crate::standing::StandingFlags;
 use rounding::encoding::Encoding;
-use rounding::flags::Flags;
 use rounding::round::{Answer, round};
 use rounding::rule::Rule;
 use rounding::truncated::Truncated;
@@ -19,29 +19,18 @@ fn rounded_square<R: Rule>(rule: &R, operand: Encoding) -> Answer
 {
     let number = scale_up(operand);
     let product = number.bits as u64 * number.bits as u64;
-    let Some(value) = Truncated::new(product, (2 * number.power + 61) as u16, false) else {
-        unreachable()
-    };
+    let value = Truncated::new(product, (2 * number.power + 61) as u16, false).unwrap();
     round(rule, false, value)
 }
 
-// The square, before its flags are gathered.
+// The square, before its flags are gathered. Here as in `square` the contract is the defined answer itself: there is no shorter way to say it.
 fn multiply<R: Rule>(rule: &R, operand: Encoding) -> Answer
     ensures { Gives result (square binary32 (R.meaning rule.now) operand.bits) }
 {
-    match class_of(operand) {
-        Class::Nan => Answer {
-            encoding: Encoding::quiet_nan(),
-            flags: Flags::none(),
-        },
-        Class::Infinity => Answer {
-            encoding: Encoding::infinity(false),
-            flags: Flags::none(),
-        },
-        Class::Zero => Answer {
-            encoding: Encoding::zero(false),
-            flags: Flags::none(),
-        },
+    match Class::from(operand) {
+        Class::Nan => silent(Encoding::quiet_nan()),
+        Class::Infinity => silent(Encoding::infinity(false)),
+        Class::Zero => silent(Encoding::zero(false)),
         Class::Number => rounded_square(rule, operand),
     }
 }
