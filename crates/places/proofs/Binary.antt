@@ -1,7 +1,11 @@
 -- Binary digits: one more, a write, and the parts below and above a place.
-use Rattle.std.proofs.Common.{◌≡◌, ℕ, zero, suc, ◌+◌, ◌*◌, ◌^◌, ◌<◌, ◌≤◌, Bool, true, false, List, [], ◌∷◌, ◌++◌, length, get_or, take, drop, set, replicate, sym, refl, ap, ◌∙◌, subst, add-one, arith}
+use Rattle.std.proofs.Common.{◌≡◌, ℕ, zero, suc, ◌+◌, ◌*◌, ◌/◌, ◌%◌, ◌^◌, ◌<◌, ◌≤◌, eqb, ◌≢◌, ⊎_elim, Bool, true, false, List, [], ◌∷◌, ◌++◌, length, get_or, take, drop, set, replicate, sym, refl, ap, ◌∙◌, subst, add-one, arith}
 use native.Mathlib.Nat.{pow-succ', pow-le-pow_right}
-use Rattle.std.proofs.lemmas.List.{take_more, take_more_set, take_all, length-take, length-take-le, length-set}
+use Rattle.std.proofs.lemmas.List.{take_more, take_more_set, take_all, take_at, drop_at, length-take, length-take-le, length-set, length-append, length-drop, length-replicate}
+use borrow.Rule.Slice.PartMut.{put_mid}
+use Rattle.std.proofs.lemmas.Slice.{take-put_mid}
+use Rattle.std.proofs.lemmas.Nat.{pow-add}
+use Rattle.std.proofs.lemmas.Bool.{cases_eq, eq-eqb, ne_eqb}
 use Rattle.places.specs.Digits.{bit, bits_value}
 
 pub pow_next : (k : ℕ) → 2 ^ (k + 1) ≡ 2 * 2 ^ k
@@ -27,10 +31,15 @@ value_split zero xs = omega arith
 value_split (suc n) [] = omega arith
 value_split (suc n) (x ∷ xs) = omega (arith, value_split n xs, ap (λ (p : ℕ). p * bits_value (drop n xs)) (pow_suc n))
 
-pub value_none : (n : ℕ) → bits_value (replicate n false) ≡ 0
-unfolding bits_value
-value_none zero = refl
-value_none (suc n) = omega (arith, value_none n)
+pub value_append : (xs ys : List Bool) → bits_value (xs ++ ys) ≡ bits_value xs + 2 ^ length xs * bits_value ys
+value_append xs ys = omega (arith, value_split (length xs) (xs ++ ys), ap bits_value (take_at xs ys (length xs) refl), ap (λ (zs : List Bool). 2 ^ length xs * bits_value zs) (drop_at xs ys (length xs) refl))
+
+odd : (c : ℕ) → bit (eqb (c % 2) 1) + 2 * (c / 2) ≡ c
+odd c =
+    ⊎_elim
+    (λ (h : c % 2 ≡ 1). rw (eq-eqb (c % 2) 1 h) (omega arith))
+    (λ (h : c % 2 ≢ 1). rw (ne_eqb (c % 2) 1 h) (omega arith))
+    (cases_eq (c % 2) 1)
 
 module _ (xs : List Bool) (i : ℕ) (within : i < length xs) where
   -- one more digit
@@ -54,29 +63,41 @@ value_below_at xs i =
     let p : 2 ^ length (take i xs) ≤ 2 ^ i = pow-le-pow_right (omega arith) few in
     omega (arith, value_below (take i xs), p)
 
--- The digits below place i are out, and the carry c holds the rest of the sum s.
-abbrev pub Carrying : List Bool → ℕ → ℕ → ℕ → Type 0
-Carrying ds i c s = (length ds ≡ 576) × (bits_value (take i ds) + c * 2 ^ i ≡ s)
+-- Of the n digits ds those below place i are out, and the carry c holds the rest of the sum s.
+abbrev pub Carrying : ℕ → List Bool → ℕ → ℕ → ℕ → Type 0
+Carrying n ds i c s = (length ds ≡ n) × (bits_value (take i ds) + c * 2 ^ i ≡ s)
 
-pub carrying_first : (c s : ℕ) → c ≡ s → Carrying (replicate 576 false) 0 c s
+pub carrying_first : (n c : ℕ) → Carrying n (replicate n false) 0 c c
 unfolding bits_value
-carrying_first c s e = (refl, omega arith)
+carrying_first n c = (length-replicate n false, omega arith)
 
-pub carrying_more : (ds : List Bool) (i c s : ℕ) (b : Bool) (c' w : ℕ) → Carrying ds i c s → i < 576 → bit b + 2 * c' ≡ c + w → Carrying (set ds i b) (i + 1) c' (s + w * 2 ^ i)
-carrying_more ds i c s b c' w h lt e = (
-  length-set ds i b ∙ h.0,
-  omega (arith, h.1, value_set ds i (omega (arith, h.0)) b, ap (λ (z : ℕ). z * 2 ^ i) e, ap (λ (p : ℕ). c' * p) (pow_next i)),
+-- the lowest digit of the carry goes out
+pub carrying_next : (n : ℕ) (ds : List Bool) (i c s : ℕ) → i < n → Carrying n ds i c s → Carrying n (set ds i (eqb (c % 2) 1)) (i + 1) (c / 2) s
+carrying_next n ds i c s lt h = (
+  length-set ds i (eqb (c % 2) 1) ∙ h.0,
+  omega (arith, h.1, value_set ds i (omega (arith, h.0)) (eqb (c % 2) 1), ap (λ (z : ℕ). z * 2 ^ i) (odd c), ap (λ (p : ℕ). c / 2 * p) (pow_next i)),
 )
+
+-- m digits of the carry's sum with the word w go out at once
+pub carrying_more : (n : ℕ) (ds bs : List Bool) (i j k m c s c' w : ℕ) → Carrying n ds i c s → j ≤ n → length bs ≡ m → k ≡ m → j ≡ i + m → bits_value bs + c' * 2 ^ m ≡ c + w → Carrying n (put_mid i k ds bs) j c' (s + w * 2 ^ i)
+carrying_more n ds bs i j k m c s c' w h few long km jm e =
+    let within : i ≤ length ds = omega (arith, h.0) in
+    let t : take j (put_mid i k ds bs) ≡ take i ds ++ bs = take-put_mid i k ds bs j (omega arith) within in
+    let v = ap bits_value t ∙ value_append (take i ds) bs ∙ ap (λ (z : ℕ). bits_value (take i ds) + 2 ^ z * bits_value bs) (length-take-le i ds within) in (
+      simp (length-append, length-drop) (omega (arith, h.0, length-take-le i ds within)),
+      omega (arith, h.1, v, ap (λ (z : ℕ). z * 2 ^ i) e, ap (λ (z : ℕ). c' * 2 ^ z) jm, ap (λ (p : ℕ). c' * p) (pow-add 2 i m)),
+    )
 
 nothing_over : (v c p s : ℕ) → v + c * p ≡ s → s < p → v ≡ s
 nothing_over v zero p s e lt = omega (arith, e)
 nothing_over v (suc c) p s e lt = absurd (omega (arith, e))
 
-pub carrying_all : (ds : List Bool) (c s : ℕ) → Carrying ds 576 c s → s < 2 ^ 576 → bits_value ds ≡ s
-carrying_all ds c s h lt = sym (ap bits_value (take_all 576 ds (omega (arith, h.0)))) ∙ nothing_over (bits_value (take 576 ds)) c (2 ^ 576) s h.1 lt
+pub carrying_all : (n : ℕ) (ds : List Bool) (i c s : ℕ) → i ≡ n → Carrying n ds i c s → bits_value ds + c * 2 ^ n ≡ s
+carrying_all n ds i c s e h =
+    ap (λ (xs : List Bool). bits_value xs + c * 2 ^ n) (sym (take_all n ds (omega (arith, h.0)))) ∙ subst (λ (m : ℕ). bits_value (take m ds) + c * 2 ^ m ≡ s) e h.1
 
-pub carrying_at : (ds : List Bool) (c : ℕ) {i j s t : ℕ} → i ≡ j → s ≡ t → Carrying ds i c s → Carrying ds j c t
-carrying_at ds c {i} {j} {s} {t} e f h = subst (λ (k : ℕ). Carrying ds k c t) e (subst (Carrying ds i c) f h)
+pub carrying_out : (ds : List Bool) (i c s : ℕ) → i ≡ 576 → Carrying 576 ds i c s → s < 2 ^ 576 → bits_value ds ≡ s
+carrying_out ds i c s e h lt = nothing_over (bits_value ds) c (2 ^ 576) s (carrying_all 576 ds i c s e h) lt
 
 -- one digit written anew
 pub value_write : (xs : List Bool) (i : ℕ) (b : Bool) → i < length xs → bits_value (set xs i b) + bit (get_or xs i false) * 2 ^ i ≡ bits_value xs + bit b * 2 ^ i

@@ -1,45 +1,46 @@
--- Leading digits and doublings, a step at a time.
-use Rattle.std.proofs.Common.{◌≡◌, ℕ, ◌+◌, ◌-◌, ◌*◌, ◌^◌, ◌<◌, ◌≤◌, Bool, true, false, ltb, List, length, get_or, take, sym, ap, ◌∙◌, subst, ⊎_elim, mul-le-mul_right, mul-le-mul_left, arith}
-use native.Mathlib.Nat.{pow-le-pow_right}
-use Rattle.std.proofs.lemmas.Bool.{cases_lt, lt-ltb}
-use Rattle.std.proofs.lemmas.Nat.{pow_pos}
+-- Leading digits, a step at a time, and whether one is set.
+use Rattle.std.proofs.Common.{◌≡◌, ℕ, ◌+◌, ◌*◌, ◌^◌, ◌<◌, ◌≤◌, Bool, true, false, ltb, List, [], ◌∷◌, ◌++◌, length, sym, refl, append_assoc, ap, ◌∙◌, subst, ⊎_elim, arith}
+use Rattle.std.proofs.lemmas.Bool.{cases_lt, lt-ltb, le-ltb}
+use mathlib.Core.Bool.{beq}
+use mir.Val.{bool_byte}
+use Rattle.std.specs.List.{list_any}
+use Rattle.std.proofs.lemmas.List.{length_push}
 use Rattle.places.specs.Digits.{bit, bits_value}
-use Rattle.places.proofs.Binary.{pow_next, value_more}
+use Rattle.places.proofs.Binary.{pow_next, value_push}
 
--- a set digit makes the number below positive, and one that is not changes nothing
-pub any_set : (xs : List Bool) (i : ℕ) → i < length xs → get_or xs i false ≡ true → true ≡ ltb 0 (bits_value (take (i + 1) xs))
-any_set xs i within e =
-    let one : bit (get_or xs i false) * 2 ^ i ≡ 2 ^ i = ap (λ (b : Bool). bit b * 2 ^ i) e ∙ omega arith in
-    sym (lt-ltb 0 (bits_value (take (i + 1) xs)) (omega (arith, value_more xs i within false, one, pow_pos i)))
+-- The digits before `rest` was reached, from the top down, are out, and n is the number that they make.
+pub record Led (ds rest : List Bool) (n : ℕ) : Type 0 where
+  pub gone : List Bool
+  pub whole : rest ++ gone ≡ ds
+  pub parts : n * 2 ^ length rest + bits_value rest ≡ bits_value ds
 
-pub any_unset : (xs : List Bool) (i : ℕ) (any : Bool) → i < length xs → get_or xs i false ≡ false → any ≡ ltb 0 (bits_value (take i xs)) → any ≡ ltb 0 (bits_value (take (i + 1) xs))
-any_unset xs i any within e h =
-    let none : bit (get_or xs i false) * 2 ^ i ≡ 0 = ap (λ (b : Bool). bit b * 2 ^ i) e ∙ omega arith in
-    let same : bits_value (take (i + 1) xs) ≡ bits_value (take i xs) = omega (arith, value_more xs i within false, none) in
-    rw same h
+pub led_more : (ds rest rest' : List Bool) (n b : ℕ) (d : Bool) → Led ds rest n → rest ≡ rest' ++ d ∷ [] → b ≡ bit d → Led ds rest' (2 * n + b)
+led_more ds rest rest' n b d l e f =
+    let before : Led ds (rest' ++ d ∷ []) n = subst (λ (xs : List Bool). Led ds xs n) e l in
+    record {
+      gone = d ∷ before.gone;
+      whole = sym (append_assoc rest' (d ∷ []) before.gone) ∙ before.whole;
+      parts = omega (arith, before.parts, value_push rest' d, ap (λ (k : ℕ). n * 2 ^ k) (length_push rest' d), ap (λ (p : ℕ). n * p) (pow_next (length rest')), ap (λ (z : ℕ). z * 2 ^ length rest') f);
+    }
 
--- one more digit from the top
-pub lead_more : (xs : List Bool) (left n v b : ℕ) → 0 < left → left ≤ length xs → n * 2 ^ left + bits_value (take left xs) ≡ v → b ≡ bit (get_or xs (left - 1) false) → (2 * n + b) * 2 ^ (left - 1) + bits_value (take (left - 1) xs) ≡ v
-lead_more xs left n v b some le h e =
-    let i : ℕ = left - 1 in
-    let next : left ≡ i + 1 = omega arith in
-    let old : n * 2 ^ (i + 1) + bits_value (take (i + 1) xs) ≡ v = subst (λ (k : ℕ). n * 2 ^ k + bits_value (take k xs) ≡ v) next h in
-    omega (arith, old, value_more xs i (omega arith) false, ap (λ (p : ℕ). n * p) (pow_next i), ap (λ (z : ℕ). z * 2 ^ i) e)
+pub byte_bit : (b : Bool) → bool_byte b ≡ bit b
+byte_bit true = refl
+byte_bit false = refl
 
--- a number that was doubled 48 times reaches 2^48
-pub few_doublings : (n r limit times : ℕ) → 0 < n → limit ≤ 2 ^ 48 → r ≡ n * 2 ^ times → r < limit → times < 48
-few_doublings n r limit times some most e lt =
+pub byte_few : (b : Bool) → bool_byte b ≤ 1
+byte_few true = omega arith
+byte_few false = omega arith
+
+doubled_some : (n : ℕ) → ltb 0 n ≡ ltb 0 (0 + 2 * n)
+doubled_some n =
     ⊎_elim
-    (λ (h : times < 48). h)
-    (λ (h : 48 ≤ times).
-    let p : 2 ^ 48 ≤ 2 ^ times = pow-le-pow_right (omega arith) h in
-    let q : 1 * 2 ^ times ≤ n * 2 ^ times = mul-le-mul_right (2 ^ times) some in
-    absurd (omega (arith, p, q)))
-    (cases_lt times 48)
+    (λ (some : 0 < n). lt-ltb 0 n some ∙ sym (lt-ltb 0 (0 + 2 * n) (omega arith)))
+    (λ (none : n ≤ 0). le-ltb 0 n none ∙ sym (le-ltb 0 (0 + 2 * n) (omega arith)))
+    (cases_lt 0 n)
 
-pub once_doubled : (n r times : ℕ) → r ≡ n * 2 ^ times → r * 2 ≡ n * 2 ^ (times + 1)
-once_doubled n r times e = omega (arith, e, ap (λ (p : ℕ). n * p) (pow_next times))
-
--- doubling never makes less
-pub not_less : (n r times : ℕ) → r ≡ n * 2 ^ times → n ≤ r
-not_less n r times e = omega (arith, e, mul-le-mul_left n (pow_pos times))
+-- a digit is set where the number is not 0
+pub any_set : (xs : List Bool) → list_any (λ b. beq b true) xs ≡ ltb 0 (bits_value xs)
+unfolding bits_value
+any_set [] = refl
+any_set (true ∷ xs) = sym (lt-ltb 0 (1 + 2 * bits_value xs) (omega arith))
+any_set (false ∷ xs) = any_set xs ∙ doubled_some (bits_value xs)

@@ -1,8 +1,9 @@
 -- Words at rising places: bounds, words past the last, sums of two.
-use Rattle.std.proofs.Common.{◌≡◌, ℕ, zero, suc, ◌+◌, ◌-◌, ◌*◌, ◌^◌, ◌<◌, ◌≤◌, false, cond, eqb, List, ℤ, refl, ap, ⊎_elim, mul-le-mul_right, mul-le-mul_left, arith}
+use Rattle.std.proofs.Common.{◌≡◌, ℕ, zero, suc, ◌+◌, ◌-◌, ◌*◌, ◌/◌, ◌^◌, ◌<◌, ◌≤◌, false, cond, eqb, ◌≢◌, List, ℤ, length, get_or, set, refl, ap, ◌∙◌, subst, lt_of_le_of_lt, ⊎_elim, mul-le-mul_right, mul-le-mul_left, arith, lit<}
 use native.Mathlib.Nat.{pow-le-pow_right}
-use Rattle.std.proofs.lemmas.Bool.{cases_eq, le-ltb, eq-eqb, ne_eqb}
-use Rattle.places.specs.Spread.{spread, lifted}
+use Rattle.std.proofs.lemmas.Bool.{cases_eq, eq-eqb, ne_eqb}
+use Rattle.std.proofs.lemmas.List.{length-set, get_or-set_same, get_or-set_other}
+use Rattle.places.specs.Spread.{spread, ups, downs}
 use Rattle.places.proofs.Binary.{pow_next}
 
 -- the word of field m + 1
@@ -58,9 +59,57 @@ spread_ones (suc m) =
     let e : 1 * m ≡ m = omega arith in
     rw y (omega (arith, rw e at (spread_more 1 (λ _. 1) m), spread_ones m, pow_next m))
 
--- raised words
-pub lifted_past : (ws : List ℤ) (k : ℕ) → 255 ≤ k → lifted ws k ≡ 0
-lifted_past ws k past = rw (le-ltb k 255 past) refl
+-- the sum of words of 64 bits that are raised by 2^63
+pub spread_lifted : (r d u : ℕ → ℕ) → ((k : ℕ) → k < 255 → r k + d k ≡ u k + 2 ^ 63) → ((k : ℕ) → k < 255 → r k < 2 ^ 64) → (spread 1 r 255 + spread 1 d 255 ≡ spread 1 u 255 + 2 ^ 317) × (spread 1 r 255 < 2 ^ 318)
+spread_lifted r d u each few = (
+  spread_raised 1 r d u (2 ^ 63) 255 each ∙ ap (λ (n : ℕ). spread 1 u 255 + 2 ^ 63 * n) (spread_ones 254),
+  lt_of_le_of_lt (spread_small 1 r 18446744073709551615 (omega arith) 253 (λ k lt. omega (arith, few k (omega arith)))) (lit< tt),
+)
+
+-- the words below f were raised by 2^63
+pub record Raised (ws : List ℤ) (rs : List ℕ) (f : ℕ) : Type 0 where
+  pub long : length rs ≡ 255
+  pub each : (k : ℕ) → k < f → get_or rs k 0 + downs ws k ≡ ups ws k + 2 ^ 63
+
+pub raised_more : (ws : List ℤ) (rs : List ℕ) (f r : ℕ) → f < 255 → Raised ws rs f → r + downs ws f ≡ ups ws f + 2 ^ 63 → Raised ws (set rs f r) (f + 1)
+raised_more ws rs f r lt t here =
+    let within : f < length rs = omega (arith, t.long) in
+    record {
+      long = length-set rs f r ∙ t.long;
+      each =
+          λ k le.
+          ⊎_elim
+          (λ (e : k ≡ f). rw e (rw (get_or-set_same rs f r 0 within) here))
+          (λ (ne : k ≢ f). rw (get_or-set_other rs f k r 0 ne) (t.each k (omega arith)))
+          (cases_eq k f);
+    }
+
+-- where the words rise by 1 or 2 places, the last place is reached past the last word
+pub last_place : (step field : ℕ) → 0 < step → step ≤ 2 → field ≡ 576 / step → (step * field ≡ 576) × (255 ≤ field)
+last_place step field some few e =
+    ⊎_elim
+    (λ (one : step ≡ 1). let f : field ≡ 576 = e ∙ ap (λ (n : ℕ). 576 / n) one in omega (arith, ap (λ (n : ℕ). n * field) one))
+    (λ (ne : step ≢ 1).
+    let two : step ≡ 2 = omega arith in
+    let f : field ≡ 288 = e ∙ ap (λ (n : ℕ). 576 / n) two in omega (arith, ap (λ (n : ℕ). n * field) two))
+    (cases_eq step 1)
+
+pub place_within : (step field : ℕ) → 0 < step → step ≤ 2 → field < 576 / step → step * field + step ≤ 576
+place_within step field some few lt =
+    ⊎_elim
+    (λ (one : step ≡ 1). let h : field < 576 = subst (λ (n : ℕ). field < 576 / n) one lt in omega (arith, ap (λ (n : ℕ). n * field) one))
+    (λ (ne : step ≢ 1).
+    let two : step ≡ 2 = omega arith in
+    let h : field < 288 = subst (λ (n : ℕ). field < 576 / n) two lt in omega (arith, ap (λ (n : ℕ). n * field) two))
+    (cases_eq step 1)
+
+-- words of 64 bits
+pub spread_fits : (step : ℕ) (w : ℕ → ℕ) → 0 < step → step ≤ 2 → ((k : ℕ) → w k < 2 ^ 64) → spread step w 255 < 2 ^ 576
+spread_fits step w some few each =
+    let few_places : step * 253 + 1 ≤ 507 = omega arith in
+    let p : 2 ^ (step * 253 + 1) ≤ 2 ^ 507 = pow-le-pow_right (omega arith) few_places in
+    let q = spread_small step w (2 ^ 64) some 253 (λ k lt. omega (arith, each k)) in
+    lt_of_le_of_lt q (lt_of_le_of_lt (mul-le-mul_left (2 ^ 64) p) (lit< tt))
 
 -- ---- sums of spreads
 module _ (step : ℕ) where

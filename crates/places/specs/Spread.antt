@@ -1,5 +1,5 @@
 -- Sums of words at rising places.
-use Rattle.std.specs.Prelude.{ℕ, zero, suc, ◌+◌, ◌-◌, ◌*◌, ◌^◌, cond, List, ℤ, pos, nat_lt, slice_index_or}
+use Rattle.std.specs.Prelude.{ℕ, zero, suc, ◌+◌, ◌-◌, ◌*◌, ◌^◌, List, ℤ, pos, slice_index_or}
 use borrow.Author.Differences.{up, down}
 
 -- the words below n: the first two count ones, and each later one counts 2^step times as much as the one before
@@ -13,7 +13,3 @@ ups ws k = up (slice_index_or ws k (pos 0))
 
 abbrev pub downs : List ℤ → ℕ → ℕ
 downs ws k = down (slice_index_or ws k (pos 0))
-
--- a signed word raised by 2^63, so that it is not below 0; and 0 past the last one
-abbrev pub lifted : List ℤ → ℕ → ℕ
-lifted ws k = cond (nat_lt k 255) (up (slice_index_or ws k (pos 0)) + 2 ^ 63 - down (slice_index_or ws k (pos 0))) 0

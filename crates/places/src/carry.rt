@@ -1,20 +1,26 @@
 // One word joins a carry.
-ghost use Rattle.std.specs.Prelude.{◌≡◌, ◌+◌, ◌*◌};
-ghost use Rattle.places.specs.Digits.{bit};
+ghost use Rattle.std.specs.Prelude.{◌≡◌, ◌+◌, ◌*◌, ◌^◌, ◌<◌};
+ghost use Rattle.places.specs.Digits.{bits_value};
 
 #[derive(Clone, Copy)]
-pub struct Step {
-    pub digit: bool,
+pub struct Step<const N: usize> {
+    pub digits: [bool; N],
     pub carry: u64,
 }
 
-// The lowest digit of the sum goes out, and the rest is carried on.
-pub fn carried(carry: u64, word: u64) -> Step
-    ensures { bit result.digit + 2 * result.carry ≡ carry + word }
+// The N lowest digits of the sum go out, and the rest is carried on.
+pub fn carried<const N: usize>(carry: u64, word: u64) -> Step<N>
+    requires { 0 < N }
+    ensures { bits_value result.digits + result.carry * 2 ^ N ≡ carry + word }
 {
-    let total = carry as u128 + word as u128;
+    let mut rest = carry as u128 + word as u128;
+    let mut digits = [false; N];
+    for digit in &mut digits {
+        *digit = rest % 2 == 1;
+        rest /= 2;
+    }
     Step {
-        digit: total % 2 == 1,
-        carry: (total / 2) as u64,
+        digits,
+        carry: rest as u64,
     }
 }

@@ -20,12 +20,14 @@ pub fn leading(bits: &Bits, limit: u64) -> Top
     ensures all { result.number < limit → result.left ≡ 0 }
 {
     let mut number = 0;
-    let mut left = 576;
-    while left > 0 && number < limit {
-        left -= 1;
-        number = 2 * number + if bits.digits[left] { 1 } else { 0 };
+    for (place, digit) in bits.digits.iter().enumerate().rev() {
+        if number >= limit {
+            let left = place + 1;
+            return Top { number, left };
+        }
+        number = 2 * number + u64::from(*digit);
     }
-    Top { number, left }
+    Top { number, left: 0 }
 }
 
 // Whether a digit below the given place is set.
@@ -33,13 +35,7 @@ pub fn any_below(bits: &Bits, left: usize) -> bool
     requires { left ≤ 576 }
     ensures { result ≡ nat_lt 0 (bits_value (take left bits.now.digits)) }
 {
-    let mut any = false;
-    for place in 0..left {
-        if bits.digits[place] {
-            any = true;
-        }
-    }
-    any
+    bits.digits[..left].contains(&true)
 }
 
 #[derive(Clone, Copy)]
@@ -59,6 +55,7 @@ pub fn doubled(number: u64, limit: u64) -> Scaled
 {
     let mut reached = number;
     let mut times = 0;
+    // It counts doublings and no places, so that no iterator says it plainer.
     while reached < limit {
         reached *= 2;
         times += 1;

@@ -1,8 +1,9 @@
--- What users of a window may cite: bounds on what stands, and that a peak is the only one.
-use Rattle.std.proofs.Common.{◌≡◌, ℕ, zero, suc, ◌-◌, ◌<◌, ◌≤◌, List, [], ◌∷◌, length, get_or, Some, ap, ◌∙◌, ⊎_elim, arith}
+-- What users of a window may cite: bounds on what stands, that a peak is the only one, and that what is asked is in range.
+use Rattle.std.proofs.Common.{◌≡◌, ℕ, ◌-◌, ◌*◌, true, ◌<◌, ◌≤◌, List, length, get_or, ap, ◌∙◌, ⊎_elim, arith}
 use borrow.Author.Differences.{le_out, lt_out}
 use Rattle.std.specs.List.{slice_get}
-use Rattle.std.proofs.lemmas.Bool.{cases_order}
+use Rattle.std.proofs.lemmas.Bool.{cases_order, le-leb, lt-ltb}
+use Rattle.engines.specs.Band.{in_range}
 use Rattle.rounding.specs.declared.encoding.Encoding.{Encoding}
 use Rattle.window.specs.declared.peak.Peak.{Peak}
 use Rattle.window.specs.declared.window.Window.{Window}
@@ -10,18 +11,13 @@ use Rattle.window.specs.Replies.{Finite, worth_of}
 use Rattle.window.specs.Ring.{blank}
 use Rattle.window.specs.Window.{standing}
 use Rattle.window.specs.Peak.{Peaks}
-use Rattle.window.proofs.Turning.{ringed_length}
+use Rattle.window.proofs.Turning.{ringed_length, nth_stands}
 
 pub standing_few : (w : Window) → length (standing w) ≤ 288
-standing_few w = omega (arith, w.held.0.1, ringed_length w.ring.cells w.ring.start w.ring.count)
+standing_few w = omega (arith, w.ring.few, ringed_length w.ring.cells w.ring.start w.ring.count)
 
 pub standing_finite : (w : Window) (k : ℕ) → Finite (get_or (standing w) k blank)
-standing_finite w k = w.held.1 k
-
-nth_stands : (xs : List Encoding) (k : ℕ) (e : Encoding) → slice_get xs k ≡ Some e → (k < length xs) × (get_or xs k blank ≡ e)
-nth_stands [] k e h = let z : ◌≡◌ {A = ℕ} 0 1 = cc in absurd (omega arith)
-nth_stands (x ∷ xs) zero e h = (omega arith, cc)
-nth_stands (x ∷ xs) (suc k) e h = let r = nth_stands xs k e h in (omega (arith, r.0), r.1)
+standing_finite w k = w.held.0 k
 
 -- of two peaks neither has the lesser place
 not_before : (xs : List Encoding) (p q : Peak) → Peaks xs p → Peaks xs q → p.place < q.place → ⊥
@@ -40,3 +36,7 @@ peak_only xs p q a b =
     let same : p.place ≡ q.place = ⊎_elim (λ e. e) (λ h. ⊎_elim (λ lt. absurd (not_before xs p q a b lt)) (λ gt. absurd (not_before xs q p b a gt)) h) (cases_order p.place q.place) in
     let enc : p.encoding ≡ q.encoding = cc (a.stands, b.stands, ap (λ (n : ℕ). slice_get xs (n - 1)) same) in
     ap (λ (n : ℕ). made n p.encoding) same ∙ ap (made q.place) enc
+
+-- a question is in range
+pub in_range_from : (d n : ℕ) → (8388608 ≤ d) × (d < 16777216) → (16777216 * d ≤ n) × (n < 33554432 * d) → in_range d n ≡ true
+in_range_from d n a b = simp (le-leb 8388608 d a.0, lt-ltb d 16777216 a.1, le-leb (16777216 * d) n b.0, lt-ltb n (33554432 * d) b.1)

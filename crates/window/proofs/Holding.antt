@@ -1,15 +1,15 @@
 -- A window's invariant, kept when a reply comes or goes.
-use Rattle.std.proofs.Common.{◌≡◌, ℕ, ◌+◌, ◌-◌, ◌*◌, ◌^◌, ◌<◌, ◌≤◌, true, false, cond, eqb, List, [], ◌∷◌, ◌++◌, length, get_or, take, drop, ℤ, pos, ◌+ℤ◌, sum_by, sym, refl, ◌∙◌, ⊎_elim, arith}
+use Rattle.std.proofs.Common.{◌≡◌, ℕ, ◌+◌, ◌*◌, ◌^◌, ◌<◌, ◌≤◌, true, false, cond, eqb, List, [], ◌∷◌, ◌++◌, length, get_or, ℤ, pos, ◌+ℤ◌, sum_by, sym, refl, subst, ⊎_elim, arith}
 use borrow.Author.Differences.{up, down, ints}
 use Rattle.std.proofs.lemmas.Bool.{cases_lt, cases_order}
-use Rattle.std.proofs.lemmas.List.{get_or_append_left, get_or_push, get_or_past, get_or-drop, get_or-take, length_push, length-take-le, drop_more, take_more, take_all}
-use Rattle.std.proofs.lemmas.List.Sums.{sum_by-cons, sum_by_push, get_or-le-sum_by}
+use Rattle.std.proofs.lemmas.List.{get_or_append_left, get_or_push, get_or_past, length_push}
+use Rattle.std.proofs.lemmas.List.Sums.{sum_by-cons, sum_by_push}
 use Rattle.rounding.specs.declared.encoding.Encoding.{Encoding}
 use Rattle.window.specs.declared.words.Words.{Words}
 use Rattle.window.specs.Replies.{Finite, field_of, signed_of, square_of, sum_z}
 use Rattle.window.specs.Ring.{blank}
 use Rattle.window.specs.Words.{signed_at, square_at, Tells, Joins, Roomy}
-use Rattle.window.proofs.Adding.{signed_small, square_small, square_here}
+use Rattle.window.proofs.Adding.{signed_small, square_small}
 
 pub sum_z_push : (f : Encoding → ℤ) (xs : List Encoding) (y : Encoding) → sum_z f (xs ++ y ∷ []) ≡ sum_z f xs +ℤ f y
 unfolding sum_z
@@ -43,12 +43,6 @@ tells_roomy w xs t few k =
     let q = sum_by_small (square_at k) (2 ^ 48) (square_at_small k) xs in
     omega (arith, ints, (t k).0, (t k).1, z.0, z.1, q)
 
--- one of the replies has its square in its word
-pub tells_held : (w : Words) (xs : List Encoding) (i : ℕ) → Tells w xs → i < length xs → square_of (get_or xs i blank) ≤ get_or w.squares (field_of (get_or xs i blank)) 0
-tells_held w xs i t h =
-    let e : Encoding = get_or xs i blank in
-    omega (arith, (t (field_of e)).1, square_here e (field_of e) refl, get_or-le-sum_by (square_at (field_of e)) xs i blank h)
-
 module _ (w v : Words) (e : Encoding) (xs : List Encoding) (j : Joins w e v) where
   pub tells_more : Tells w xs → Tells v (xs ++ e ∷ [])
   tells_more t k = (omega (arith, ints, (t k).0, (j k).0, sum_z_push (signed_at k) xs e), omega (arith, (t k).1, (j k).1, sum_by_push (square_at k) xs e))
@@ -77,24 +71,9 @@ finite_more xs e all here k =
     h)
     (cases_order k (length xs))
 
-pub finite_older : (xs : List Encoding) → AllFinite xs → AllFinite (drop 1 xs)
-finite_older xs all k = rw (get_or-drop 1 xs k blank) (all (1 + k))
-
-pub finite_newer : (xs : List Encoding) (n : ℕ) → n ≤ length xs → AllFinite xs → AllFinite (take n xs)
-finite_newer xs n few all k =
+pub finite_newer : (xs : List Encoding) (e : Encoding) → AllFinite (xs ++ e ∷ []) → AllFinite xs
+finite_newer xs e all k =
     ⊎_elim
-    (λ (h : k < n). rw (get_or-take n xs k blank h) (all k))
-    (λ (h : n ≤ k).
-    let past : length (take n xs) ≤ k = omega (arith, length-take-le n xs few) in
-    rw (get_or_past (take n xs) k blank past) refl)
-    (cases_lt k n)
-
--- a list with its oldest, and with its newest reply apart
-pub oldest_apart : (xs : List Encoding) → 0 < length xs → xs ≡ get_or xs 0 blank ∷ drop 1 xs
-oldest_apart xs h = drop_more xs 0 blank h
-
-pub newest_apart : (xs : List Encoding) → 0 < length xs → xs ≡ take (length xs - 1) xs ++ get_or xs (length xs - 1) blank ∷ []
-newest_apart xs h =
-    let i : ℕ = length xs - 1 in
-    let all : length xs ≤ i + 1 = omega arith in
-    sym (take_all (i + 1) xs all) ∙ take_more xs i blank (omega arith)
+    (λ (h : k < length xs). subst (λ (x : Encoding). Finite x) (get_or_append_left xs (e ∷ []) blank k h) (all k))
+    (λ (h : length xs ≤ k). rw (get_or_past xs k blank h) refl)
+    (cases_lt k (length xs))

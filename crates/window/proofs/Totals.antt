@@ -1,5 +1,5 @@
 -- The words at their places add up to the exact sums of the replies.
-use Rattle.std.proofs.Common.{◌≡◌, ℕ, suc, ◌+◌, ◌-◌, ◌*◌, ◌^◌, ◌<◌, Bool, true, false, cond, eqb, ltb, List, [], ◌∷◌, get_or, ℤ, pos, negsuc, neg_ℤ, nat_abs, sum_by, sym, refl, ap, ◌∙◌, subst, arith}
+use Rattle.std.proofs.Common.{◌≡◌, ℕ, suc, ◌+◌, ◌-◌, ◌*◌, ◌^◌, ◌<◌, Bool, true, false, cond, eqb, ltb, List, [], ◌∷◌, get_or, ℤ, pos, negsuc, neg_ℤ, nat_abs, Option, sum_by, sym, refl, ap, ◌∙◌, subst, arith}
 use borrow.Author.Differences.{up, down, ints, neg_is, abs_is}
 use Rattle.std.proofs.lemmas.Bool.{lt-ltb, le-ltb, ltb-true}
 use Rattle.std.proofs.lemmas.Nat.{pow-add}
@@ -10,7 +10,7 @@ use Rattle.rounding.specs.declared.encoding.Encoding.{Encoding}
 use Rattle.rounding.specs.Format.{binary32, negative, size, significand, shift, value}
 use Rattle.window.specs.declared.words.Words.{Words}
 use Rattle.window.specs.Replies.{Finite, field_of, signed_of, square_of, worth_of, worth_squared, sum_z, total, total_squares, below_zero}
-use Rattle.window.specs.declared.asked.Ask.{Ask}
+use Rattle.window.specs.declared.ask.Ask.{Ask}
 use Rattle.window.specs.Due.{Due}
 use Rattle.window.specs.Words.{signed_at, square_at, Tells}
 use Rattle.window.proofs.Holding.{AllFinite}
@@ -104,6 +104,6 @@ pub sign_is : (u d : ℕ) (z : ℤ) → u + down z ≡ d + up z → ltb u d ≡ 
 sign_is u d (pos n) e = le-ltb u d (omega arith)
 sign_is u d (negsuc n) e = lt-ltb u d (omega arith)
 
-pub due_at : (u : ℕ) (ask : Ask) {b b' : Bool} {s s' n n' : ℕ} → b ≡ b' → s ≡ s' → n ≡ n' → Due b s n u ask → Due b' s' n' u ask
+pub due_at : (u : ℕ) (ask : Option Ask) {b b' : Bool} {s s' n n' : ℕ} → b ≡ b' → s ≡ s' → n ≡ n' → Due b s n u ask → Due b' s' n' u ask
 due_at u ask {b} {b'} {s} {s'} {n} {n'} e f g h =
     subst (λ (x : Bool). Due x s' n' u ask) e (subst (λ (x : ℕ). Due b x n' u ask) f (subst (λ (x : ℕ). Due b s x u ask) g h))

@@ -1,6 +1,7 @@
 -- Reading round a ring: what one write, one cell more at the end and one less at the front do to what stands.
-use Rattle.std.proofs.Common.{◌≡◌, ℕ, zero, suc, ◌+◌, ◌-◌, ◌%◌, ◌<◌, ◌≢◌, List, [], ◌∷◌, ◌++◌, length, get_or, take, drop, set, sym, refl, ap, ◌∙◌, subst, arith}
-use Rattle.std.proofs.lemmas.List.{get_or-set_same, get_or-set_other, take_at}
+use Rattle.std.proofs.Common.{◌≡◌, ℕ, zero, suc, ◌+◌, ◌-◌, ◌%◌, ◌<◌, ◌≢◌, List, [], ◌∷◌, ◌++◌, length, get_or, drop, set, refl, ap, ◌∙◌, Some, None, arith}
+use Rattle.std.proofs.lemmas.List.{get_or-set_same, get_or-set_other}
+use Rattle.std.specs.List.{slice_get}
 use Rattle.rounding.specs.declared.encoding.Encoding.{Encoding}
 use Rattle.window.specs.Ring.{blank, ringed}
 
@@ -58,10 +59,26 @@ ringed_older cells start (suc n) h =
     let e : suc n - 1 ≡ n = omega arith in
     rw e (ringed_same cells ((start + 1) % 288) (start + 1) n (omega arith))
 
--- the newest one left out
-pub ringed_newer : (cells : List Encoding) (start count : ℕ) → 0 < count → ringed cells start (count - 1) ≡ take (count - 1) (ringed cells start count)
-ringed_newer cells start count h =
-    let n : ℕ = count - 1 in
-    let e : count ≡ n + 1 = omega arith in
-    let pushed : ringed cells start count ≡ ringed cells start n ++ get_or cells ((start + n) % 288) blank ∷ [] = subst (λ (m : ℕ). ringed cells start m ≡ ringed cells start n ++ get_or cells ((start + n) % 288) blank ∷ []) (sym e) (ringed_push cells start n) in
-    sym (rw pushed (take_at (ringed cells start n) (get_or cells ((start + n) % 288) blank ∷ []) n (ringed_length cells start n)))
+-- the newest one apart
+pub ringed_last : (cells : List Encoding) (start count n : ℕ) → count ≡ n + 1 → ringed cells start count ≡ ringed cells start n ++ get_or (ringed cells start count) n blank ∷ []
+ringed_last cells start count n e =
+    let last : get_or (ringed cells start count) n blank ≡ get_or cells ((start + n) % 288) blank = ringed_at cells start count n (omega arith) in
+    ap (ringed cells start) e ∙ ringed_push cells start n ∙ rw last
+
+pub ringed_none : (cells : List Encoding) (start count : ℕ) → count ≡ 0 → ringed cells start count ≡ []
+unfolding ringed
+ringed_none cells start count e = rw e
+
+-- what a read says of the list
+pub none_stands : (xs : List Encoding) → slice_get xs 0 ≡ None → xs ≡ []
+none_stands [] h = refl
+none_stands (x ∷ xs) h = cc
+
+pub nth_stands : (xs : List Encoding) (k : ℕ) (e : Encoding) → slice_get xs k ≡ Some e → (k < length xs) × (get_or xs k blank ≡ e)
+nth_stands [] k e h = let z : ◌≡◌ {A = ℕ} 0 1 = cc in absurd (omega arith)
+nth_stands (x ∷ xs) zero e h = (omega arith, cc)
+nth_stands (x ∷ xs) (suc k) e h = let r = nth_stands xs k e h in (omega (arith, r.0), r.1)
+
+pub first_stands : (xs : List Encoding) (e : Encoding) → slice_get xs 0 ≡ Some e → xs ≡ e ∷ drop 1 xs
+first_stands [] e h = cc
+first_stands (x ∷ xs) e h = cc

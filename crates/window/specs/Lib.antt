@@ -6,4 +6,5 @@ pub mod Held
 pub mod Faults
 pub mod Window
 pub mod Peak
+pub mod Average
 pub mod Due

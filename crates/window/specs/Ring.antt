@@ -1,5 +1,5 @@
 -- The replies that stand in a ring, oldest first.
-use Rattle.std.specs.Prelude.{ℕ, zero, suc, ◌+◌, ◌%◌, ◌<◌, ◌≤◌, List, [], ◌∷◌, slice_index_or}
+use Rattle.std.specs.Prelude.{ℕ, zero, suc, ◌+◌, ◌%◌, List, [], ◌∷◌, slice_index_or}
 use Rattle.rounding.specs.declared.encoding.Encoding.{Encoding}
 use Rattle.window.specs.declared.ring.Ring.{Ring}
 
@@ -14,7 +14,3 @@ ringed cells from (suc n) = slice_index_or cells (from % 288) blank ∷ ringed c
 
 abbrev pub standing_in : Ring → List Encoding
 standing_in r = ringed r.cells r.start r.count
-
--- start and count are within the ring
-abbrev pub Sound : Ring → Type 0
-Sound r = (r.start < 288) × (r.count ≤ 288)

@@ -5,18 +5,15 @@ ghost use Rattle.window.specs.Faults.{number};
 #[derive(Clone, Copy)]
 pub enum WindowFault {
     // As many replies stand as the window has room for.
-    Full,
+    Full = 7,
     // No reply stands.
-    Empty,
+    Empty = 8,
 }
 
 impl WindowFault {
     pub fn number(self) -> u8
         ensures { result ≡ number self }
     {
-        match self {
-            WindowFault::Full => 7,
-            WindowFault::Empty => 8,
-        }
+        self as u8
     }
 }

@@ -1,7 +1,8 @@
 // The window of standing replies: at most 288 finite encodings in the order of their coming, with their exact sums at hand.
 #![tactic(auto)]
 
-pub mod asked;
+pub mod ask;
+pub mod average;
 pub mod fault;
 mod order;
 pub mod peak;

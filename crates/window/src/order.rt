@@ -1,4 +1,4 @@
-// The order of finite encodings by value.
+// The order of finite encodings by value, in which both zeros are equal: a derived order would be that of the bits.
 ghost use Rattle.std.specs.Prelude.{◌≡◌, int_lt};
 ghost use Rattle.window.specs.Replies.{worth_of, rank};
 

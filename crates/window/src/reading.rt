@@ -11,7 +11,7 @@ pub struct Reading {
 }
 
 impl Reading {
-    // Refuses the NaNs and the infinities, and nothing else.
+    // Refuses the NaNs and the infinities, and nothing else. So `None` says all that a fault would, and no TryFrom is needed.
     pub fn new(encoding: Encoding) -> Option<Reading>
         ensures { MatchOption result (is_finite binary32 encoding.bits ≡ false) (λ reading. (is_finite binary32 encoding.bits ≡ true) × (reading.encoding ≡ encoding)) }
     {

@@ -1,22 +1,27 @@
 // The standing replies in a ring of fixed room: the oldest at `start`, the others after it, past the end on from the beginning.
-ghost use Rattle.std.specs.Prelude.{◌≡◌, ◌+◌, ◌-◌, ◌%◌, ◌<◌, [], ◌∷◌, ◌++◌, length, take, drop, slice_index_or};
-ghost use Rattle.window.specs.Ring.{standing_in, blank, Sound};
+ghost use Rattle.std.specs.Prelude.{◌≡◌, ◌+◌, ◌%◌, ◌<◌, ◌≤◌};
 
 use rounding::encoding::Encoding;
 
 pub const ROOM: usize = 288;
 
+// A plain struct of fixed room, without a heap: a rule of the project.
 #[derive(Clone, Copy)]
 pub struct Ring {
     cells: [Encoding; 288],
     start: usize,
     count: usize,
+    ghost starts: { start < 288 },
+    ghost few: { count ≤ 288 },
 }
 
 impl Ring {
+    ghost use Rattle.std.specs.Prelude.{[], ◌∷◌, ◌++◌, length, MatchOption, slice_index_or};
+    ghost use Rattle.std.specs.List.{slice_get};
+    ghost use Rattle.window.specs.Ring.{standing_in, blank};
+
     pub fn new() -> Ring
-        ensures sound { Sound result }
-        ensures stands { standing_in result ≡ [] }
+        ensures { standing_in result ≡ [] }
     {
         Ring {
             cells: [Encoding::from_bits(0); 288],
@@ -34,53 +39,70 @@ impl Ring {
 
     // The cell of the i-th reply, counted from 0 at the oldest, or of the next one to come.
     fn cell(&self, i: usize) -> usize
-        requires { (Sound self.now) × (i < 289) }
+        requires { i < 289 }
         ensures { result ≡ (self.now.start + i) % 288 }
     {
         (self.start + i) % ROOM
     }
 
     pub fn at(&self, i: usize) -> Encoding
-        requires { (Sound self.now) × (i < self.now.count) }
+        requires { i < self.now.count }
         ensures { result ≡ slice_index_or (standing_in self.now) i blank }
     {
         self.cells[self.cell(i)]
     }
 
-    pub fn with_newest(self, reply: Encoding) -> Ring
-        requires { (Sound self) × (self.count < 288) }
-        ensures sound { Sound result }
-        ensures stands { standing_in result ≡ standing_in self ++ reply ∷ [] }
+    pub fn get(&self, i: usize) -> Option<Encoding>
+        ensures { result ≡ slice_get (standing_in self.now) i }
     {
+        if i < self.count {
+            Some(self.at(i))
+        } else {
+            None
+        }
+    }
+
+    // None where there is no room.
+    pub fn with_newest(self, reply: Encoding) -> Option<Ring>
+        ensures { MatchOption result (length (standing_in self) ≡ 288) (λ ring. (length (standing_in self) < 288) × (standing_in ring ≡ standing_in self ++ reply ∷ [])) }
+    {
+        if self.count == ROOM {
+            return None;
+        }
         let mut cells = self.cells;
         cells[self.cell(self.count)] = reply;
-        Ring {
+        Some(Ring {
             cells,
             start: self.start,
             count: self.count + 1,
-        }
+        })
     }
 
-    pub fn without_oldest(self) -> Ring
-        requires { (Sound self) × (0 < self.count) }
-        ensures sound { Sound result }
-        ensures stands { standing_in result ≡ drop 1 (standing_in self) }
+    // The oldest reply, and the ring without it.
+    pub fn without_oldest(self) -> Option<(Encoding, Ring)>
+        ensures { MatchOption result (standing_in self ≡ []) (λ p. standing_in self ≡ p.0 ∷ standing_in p.1) }
     {
+        let oldest = self.get(0)?;
         let cells = self.cells;
-        Ring {
+        let ring = Ring {
             cells,
             start: self.cell(1),
             count: self.count - 1,
-        }
+        };
+        Some((oldest, ring))
     }
 
-    pub fn without_newest(self) -> Ring
-        requires { (Sound self) × (0 < self.count) }
-        ensures sound { Sound result }
-        ensures stands { standing_in result ≡ take (length (standing_in self) - 1) (standing_in self) }
+    // The newest reply, and the ring without it.
+    pub fn without_newest(self) -> Option<(Encoding, Ring)>
+        ensures { MatchOption result (standing_in self ≡ []) (λ p. standing_in self ≡ standing_in p.1 ++ p.0 ∷ []) }
     {
-        let mut next = self;
-        next.count = self.count - 1;
-        next
+        let count = self.count.checked_sub(1)?;
+        let cells = self.cells;
+        let ring = Ring {
+            cells,
+            start: self.start,
+            count,
+        };
+        Some((self.at(count), ring))
     }
 }

@@ -9,6 +9,7 @@ use places::bits::{Bits, Signed};
 use places::sums::{signed_sum, sum_of_squares};
 use rounding::encoding::Encoding;
 
+// Two plain arrays side by side: a rule of the project, a word of each kind for each exponent field.
 #[derive(Clone, Copy)]
 pub struct Words {
     sums: [i64; 255],
@@ -52,7 +53,7 @@ impl Words {
         next
     }
 
-    // One reply less.
+    // One reply less. Beside `with`, and not one function that is given a sign: what the two require differs.
     pub fn without(self, reply: Encoding) -> Words
         requires finite { Finite reply }
         requires roomy { Roomy self }

@@ -1,36 +1,32 @@
-// What a window's mean and mean square ask an engine for.
-ghost use Rattle.std.specs.Prelude.{◌≡◌, ◌<◌, false, length, MatchResult, unsigned_abs};
-ghost use Rattle.window.specs.Replies.{total, total_squares, below_zero};
+// What an average of a window asks an engine for.
+ghost use Rattle.std.specs.Prelude.{◌≡◌, ◌<◌, length, MatchResult};
+ghost use Rattle.window.specs.Average.{sum_sign, sum_size, sum_unit};
 ghost use Rattle.window.specs.Window.{standing};
 ghost use Rattle.window.specs.Due.{Due};
 
 use super::Window;
-use crate::asked::Ask;
-use crate::asked::making::ask_of;
+use crate::ask::Ask;
+use crate::average::Average;
 use crate::fault::WindowFault;
 
 impl Window {
-    // The mean: the sum of the standing replies, in units of 2^-149, over their number.
-    pub fn mean_ask(&self) -> Result<Ask, WindowFault>
-        ensures { MatchResult result (λ ask. (0 < length (standing self.now)) × Due (below_zero (total (standing self.now))) (unsigned_abs (total (standing self.now))) (length (standing self.now)) 149 ask) (λ fault. (length (standing self.now) ≡ 0) × (fault ≡ WindowFault.Empty)) }
+    // The sum over the number of standing replies: for the mean their own sum, for the mean square that of their squares.
+    pub fn ask(&self, average: Average) -> Result<Option<Ask>, WindowFault>
+        ensures { MatchResult result (λ ask. (0 < length (standing self.now)) × Due (sum_sign average (standing self.now)) (sum_size average (standing self.now)) (length (standing self.now)) (sum_unit average) ask) (λ fault. (length (standing self.now) ≡ 0) × (fault ≡ WindowFault.Empty)) }
     {
         let count = self.ring.count();
         if count == 0 {
             return Err(WindowFault::Empty);
         }
-        let sum = self.words.sum();
-        Ok(ask_of(sum.negative, &sum.size, count, 149))
-    }
-
-    // The mean square: the sum of their squares, in units of 2^-298, over their number.
-    pub fn mean_square_ask(&self) -> Result<Ask, WindowFault>
-        ensures { MatchResult result (λ ask. (0 < length (standing self.now)) × Due false (total_squares (standing self.now)) (length (standing self.now)) 298 ask) (λ fault. (length (standing self.now) ≡ 0) × (fault ≡ WindowFault.Empty)) }
-    {
-        let count = self.ring.count();
-        if count == 0 {
-            return Err(WindowFault::Empty);
+        match average {
+            Average::Mean => {
+                let sum = self.words.sum();
+                Ok(Ask::of(sum.negative, &sum.size, count, 149))
+            }
+            Average::MeanSquare => {
+                let sum = self.words.sum_of_squares();
+                Ok(Ask::of(false, &sum, count, 298))
+            }
         }
-        let sum = self.words.sum_of_squares();
-        Ok(ask_of(false, &sum, count, 298))
     }
 }

@@ -5,7 +5,7 @@ ghost use Rattle.window.specs.Window.{standing, taken_in};
 use super::Window;
 use crate::fault::WindowFault;
 use crate::reading::Reading;
-use crate::ring::{ROOM, Ring};
+use crate::ring::Ring;
 use crate::words::Words;
 
 impl Window {
@@ -24,26 +24,21 @@ impl Window {
         ensures result { MatchResult result (λ n. (length (standing self.old) < 288) × (n ≡ length (standing self.old) + 1)) (λ fault. (length (standing self.old) ≡ 288) × (fault ≡ WindowFault.Full)) }
         ensures stands { standing self.new ≡ taken_in (standing self.old) reading.encoding }
     {
-        if self.ring.count() == ROOM {
-            return Err(WindowFault::Full);
-        }
         let reply = reading.encoding();
-        let ring = self.ring.with_newest(reply);
+        let ring = self.ring.with_newest(reply).ok_or(WindowFault::Full)?;
         let words = self.words.with(reply);
         *self = Window { ring, words };
         Ok(ring.count())
     }
 
-    // The oldest reply goes. Answers how many still stand.
+    // The oldest reply goes. Answers how many still stand. That retiring and retracting are methods of their own, here and at the meter, is a
+    // rule of the project; what they share lies in the ring and the words.
     pub fn retire(&mut self) -> Result<usize, WindowFault>
         ensures result { MatchResult result (λ n. n + 1 ≡ length (standing self.old)) (λ fault. (length (standing self.old) ≡ 0) × (fault ≡ WindowFault.Empty)) }
         ensures stands { standing self.new ≡ drop 1 (standing self.old) }
     {
-        if self.ring.count() == 0 {
-            return Err(WindowFault::Empty);
-        }
-        let ring = self.ring.without_oldest();
-        let words = self.words.without(self.ring.at(0));
+        let (gone, ring) = self.ring.without_oldest().ok_or(WindowFault::Empty)?;
+        let words = self.words.without(gone);
         *self = Window { ring, words };
         Ok(ring.count())
     }
@@ -53,11 +48,8 @@ impl Window {
         ensures result { MatchResult result (λ n. n + 1 ≡ length (standing self.old)) (λ fault. (length (standing self.old) ≡ 0) × (fault ≡ WindowFault.Empty)) }
         ensures stands { standing self.new ≡ take (length (standing self.old) - 1) (standing self.old) }
     {
-        if self.ring.count() == 0 {
-            return Err(WindowFault::Empty);
-        }
-        let ring = self.ring.without_newest();
-        let words = self.words.without(self.ring.at(self.ring.count() - 1));
+        let (gone, ring) = self.ring.without_newest().ok_or(WindowFault::Empty)?;
+        let words = self.words.without(gone);
         *self = Window { ring, words };
         Ok(ring.count())
     }

@@ -13,13 +13,10 @@ impl Window {
     pub fn peak(&self) -> Result<Peak, WindowFault>
         ensures { MatchResult result (λ peak. Peaks (standing self.now) peak) (λ fault. (length (standing self.now) ≡ 0) × (fault ≡ WindowFault.Empty)) }
     {
-        let count = self.ring.count();
-        if count == 0 {
-            return Err(WindowFault::Empty);
-        }
+        let mut encoding = self.ring.get(0).ok_or(WindowFault::Empty)?;
         let mut place = 1;
-        let mut encoding = self.ring.at(0);
-        for i in 1..count {
+        // A rule of the project: the peak comes from a loop over the stored replies with their index.
+        for i in 1..self.ring.count() {
             let reply = self.ring.at(i);
             if exceeds(reply, encoding) {
                 place = i + 1;

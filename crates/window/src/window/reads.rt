@@ -18,11 +18,7 @@ impl Window {
     pub fn get(&self, i: usize) -> Option<Encoding>
         ensures { result ≡ slice_get (standing self.now) i }
     {
-        if i < self.ring.count() {
-            Some(self.ring.at(i))
-        } else {
-            None
-        }
+        self.ring.get(i)
     }
 
     pub fn newest(&self) -> Option<Encoding>

@@ -1,26 +1,21 @@
-use Rattle.std.proofs.Common.{◌≡◌, ℕ, ◌<◌, false, length, get_or, refl, subst, arith, rules}
-use Rattle.places.proofs.Lacking.{Turned, turned_none, turned_more, turned_all, turned_set, turned_unset}
+use Rattle.std.proofs.Common.{◌≡◌, length, take, sym, arith, rules}
+use Rattle.std.proofs.lemmas.List.{length-take-le}
+use Rattle.places.proofs.Lacking.{turned_none, turned_more, turned_all}
 use Rattle.places.proofs.sums.lacking.Goals as goal
-use Rattle.places.proofs.sums.lacking.Goals.{then-digit, else-digit}
 
-pub loop-place-init : goal.loop-place-init
-loop-place-init c = turned_none c.args.bits.digits
-
-pub loop-place-preserved : goal.loop-place-preserved
-loop-place-preserved c =
-    let i : ℕ = c.loop-place.place in
+pub slice_bounds-digit-items-end : goal.slice_bounds-digit-items-end
+slice_bounds-digit-items-end c =
     let long : length c.args.bits.digits ≡ 576 = search rules in
-    let within : i < length c.args.bits.digits = omega arith in
-    elim c.if-digit.branch [
-      | then-digit w ↦
-          rw w.seen-is
-          (turned_more c.loop-place.digits c.args.bits.digits i c.loop-place.seen (get_or c.args.bits.digits i false) _ _ c.loop-place.invariant (omega arith) within refl (turned_set (get_or c.args.bits.digits i false) c.loop-place.seen w.if-digit.true))
-      | else-digit w ↦
-          rw w.seen-is
-          (turned_more c.loop-place.digits c.args.bits.digits i c.loop-place.seen (get_or c.args.bits.digits i false) _ _ c.loop-place.invariant (omega arith) within refl (turned_unset (get_or c.args.bits.digits i false) c.loop-place.seen w.if-digit.false))
-    ]
+    sym (length-take-le 317 c.args.bits.digits (omega arith))
+
+pub loop-digit-init : goal.loop-digit-init
+loop-digit-init c = turned_none (take 317 c.args.bits.digits)
+
+pub loop-digit-preserved : goal.loop-digit-preserved
+loop-digit-preserved c = turned_more c.loop-digit.digit-items (take 317 c.args.bits.digits) c.loop-digit.digit-index c.loop-digit.seen (omega arith) c.loop-digit.invariant
 
 pub returns : goal.returns
 returns c =
-    let end : c.loop-place.place ≡ 317 = omega arith in
-    turned_all c.loop-place.digits c.args.bits.digits c.loop-place.seen (subst (λ (n : ℕ). Turned c.loop-place.digits c.args.bits.digits n c.loop-place.seen) end c.loop-place.invariant) c.requires
+    let long : length c.args.bits.digits ≡ 576 = search rules in
+    let few : length (take 317 c.args.bits.digits) ≡ 317 = length-take-le 317 c.args.bits.digits (omega arith) in
+    turned_all c.loop-digit.digit-items c.args.bits.digits c.loop-digit.digit-index c.loop-digit.seen (omega arith) (omega arith) c.loop-digit.invariant c.requires

@@ -1,26 +1,37 @@
-use Rattle.std.proofs.Common.{◌^◌, ◌<◌, Bool, List, length, rules}
+use Rattle.std.proofs.Common.{◌≡◌, ℕ, ◌+◌, ◌^◌, ◌<◌, Bool, List, length, get_or, rules}
 use Rattle.places.specs.Digits.{bits_value}
 use Rattle.places.specs.Spread.{spread, ups, downs}
+use Rattle.places.proofs.Spreading.{spread_lifted}
 use Rattle.places.proofs.Lacking.{at_raise, not_below, below_raise, cleared}
 use Rattle.places.proofs.sums.signed_sum.Goals as goal
+use Rattle.places.proofs.sums.signed_sum.Goals.{After-spread_sum-size}
 
-pub lacking-requires : goal.lacking-requires
-lacking-requires c =
-    let within : 317 < length c.raised_sum-raised.result.digits = search rules in
-    (at_raise c.raised_sum-raised.result.digits 317 within c.raised_sum-raised.ensures.below).1 c.if-digits.false
+-- the raised sum
+sum : (c : After-spread_sum-size) → (bits_value c.spread_sum-size.result.digits + spread 1 (downs c.args.words.now) 255 ≡ spread 1 (ups c.args.words.now) 255 + 2 ^ 317) × (bits_value c.spread_sum-size.result.digits < 2 ^ 318)
+sum c =
+    let fits : (k : ℕ) → get_or c.raised.result k 0 < 2 ^ 64 = λ k. search rules in
+    rw c.spread_sum-size.ensures (spread_lifted (λ k. get_or c.raised.result k 0) (downs c.args.words.now) (ups c.args.words.now) c.raised.ensures (λ k lt. fits k))
 
-pub returns-then-digits : goal.returns-then-digits
-returns-then-digits c =
-    let xs : List Bool = c.raised_sum-raised.result.digits in
+pub lacking-size-requires : goal.lacking-size-requires
+lacking-size-requires c =
+    let xs : List Bool = c.spread_sum-size.result.digits in
     let within : 317 < length xs = search rules in
-    let reached = (at_raise xs 317 within c.raised_sum-raised.ensures.below).0 c.if-digits.true in
-    let both = not_below (bits_value xs) (spread 1 (ups c.args.words.now) 255) (spread 1 (downs c.args.words.now) 255) (2 ^ 317) _ c.raised_sum-raised.ensures.sum reached (cleared xs 317 within c.if-digits.true) in
-    record { sign = both.0; size = both.1 }
+    (at_raise xs 317 within (sum (goal.at.lacking-size-requires c).After-spread_sum-size).1).1 c.if-negative.true
 
-pub returns-else-digits : goal.returns-else-digits
-returns-else-digits c =
-    let xs : List Bool = c.raised_sum-raised.result.digits in
+pub returns-then-negative : goal.returns-then-negative
+returns-then-negative c =
+    let xs : List Bool = c.spread_sum-size.result.digits in
     let within : 317 < length xs = search rules in
-    let short = (at_raise xs 317 within c.raised_sum-raised.ensures.below).1 c.if-digits.false in
-    let both = below_raise (bits_value xs) (spread 1 (ups c.args.words.now) 255) (spread 1 (downs c.args.words.now) 255) (2 ^ 317) _ c.raised_sum-raised.ensures.sum short c.lacking.ensures in
-    record { sign = both.0; size = both.1 }
+    let raised = sum (goal.at.returns-then-negative c).After-spread_sum-size in
+    let short = (at_raise xs 317 within raised.1).1 c.if-negative.true in
+    let both = below_raise (bits_value xs) (spread 1 (ups c.args.words.now) 255) (spread 1 (downs c.args.words.now) 255) (2 ^ 317) _ raised.0 short c.lacking-size.ensures in
+    record { sign = rw c.if-negative.true both.0; size = both.1 }
+
+pub returns-else-negative : goal.returns-else-negative
+returns-else-negative c =
+    let xs : List Bool = c.spread_sum-size.result.digits in
+    let within : 317 < length xs = search rules in
+    let raised = sum (goal.at.returns-else-negative c).After-spread_sum-size in
+    let reached = (at_raise xs 317 within raised.1).0 c.if-negative.false in
+    let both = not_below (bits_value xs) (spread 1 (ups c.args.words.now) 255) (spread 1 (downs c.args.words.now) 255) (2 ^ 317) _ raised.0 reached (cleared xs 317 within c.if-negative.false) in
+    record { sign = rw c.if-negative.false both.0; size = both.1 }

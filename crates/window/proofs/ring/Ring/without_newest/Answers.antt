@@ -1,10 +1,11 @@
-use Rattle.std.proofs.Common.{arith, rules}
-use Rattle.window.proofs.Turning.{ringed_length, ringed_newer}
+use Rattle.std.proofs.Common.{◌∙◌, arith}
+use Rattle.window.proofs.Turning.{ringed_none, ringed_last}
 use Rattle.window.proofs.ring.Ring.without_newest.Goals as goal
+
+pub returns-in_err-count : goal.returns-in_err-count
+returns-in_err-count c = rw c.from_residual.ensures (ringed_none c.args.self.cells c.args.self.start c.args.self.count (omega (arith, c.in_err-count.ensures)))
 
 pub returns : goal.returns
 returns c =
-    record {
-      sound = search rules;
-      stands = rw (ringed_length c.args.self.cells c.args.self.start c.args.self.count) (ringed_newer c.args.self.cells c.args.self.start c.args.self.count (omega arith));
-    }
+    let r = c.args.self in
+    ringed_last r.cells r.start r.count c.in_ok-count.count (omega (arith, c.in_ok-count.ensures)) ∙ rw c.at.ensures
