@@ -1,6 +1,6 @@
 -- What a mean's answer and question come to.
 use Rattle.std.proofs.Common.{◌≡◌, ℕ, ◌*◌, ◌^◌, ◌<◌, ◌≤◌, Bool, true, false, not, ◌||◌, eqb, List, [], ◌∷◌, length, ℤ, pos, negsuc, nat_abs, sym, refl, ap, ◌∙◌, subst, arith, lit<}
-use Rattle.std.proofs.lemmas.Bool.{eq-eqb, ne_eqb, le-leb, lt-ltb}
+use Rattle.std.proofs.lemmas.Bool.{eq-eqb, ne_eqb}
 use Rattle.std.proofs.lemmas.Nat.{pow_pos, mul-le}
 use Rattle.engines.specs.Band.{in_range, quotient as whole_part}
 use Rattle.engines.specs.Meaning.{counted}
@@ -15,13 +15,13 @@ use Rattle.arithmetic.specs.Defined.{aligned}
 use Rattle.arithmetic.proofs.Scaling.{aligned_only}
 use Rattle.arithmetic.proofs.Quotients.{ranged}
 use Rattle.places.specs.Asking.{Asks, Scales}
-use Rattle.window.specs.Replies.{below_zero, sum_z}
-use Rattle.means.specs.Defined.{sum_log, sum_dividend, mean_log, mean_square_log}
+use Rattle.window.specs.declared.average.Average.{Average}
+use Rattle.window.specs.declared.average.Average.TheVariants.{Mean, MeanSquare}
+use Rattle.window.specs.Average.{sum_sign, sum_size, sum_unit}
+use Rattle.window.specs.Replies.{total, below_zero, sum_z}
+use Rattle.means.specs.Defined.{sum_log, sum_dividend, average_of, average_log}
 use Rattle.means.proofs.Asking.{dividend_only}
 use Rattle.means.proofs.Nearness.{mean_near}
-
-pub in_range_from : (d n : ℕ) → 8388608 ≤ d → d < 16777216 → 16777216 * d ≤ n → n < 33554432 * d → in_range d n ≡ true
-in_range_from d n a b c e = simp (le-leb 8388608 d a, lt-ltb d 16777216 b, le-leb (16777216 * d) n c, lt-ltb n (33554432 * d) e)
 
 pub sum_near : (s n u d N x q : ℕ) (more cut : Bool) → 0 < n → in_range d N ≡ true → Scales 256 (s * 2 ^ 149) (n * 2 ^ u) d N x more → q ≡ whole_part d N → cut ≡ (not (eqb (q * d) N) || more) → Near q x cut (s * 2 ^ 149) (n * 2 ^ u)
 sum_near s n u d N x q more cut np r sc qe ce =
@@ -48,17 +48,28 @@ ask_log log s n d N sp np nl a =
     simp (ne_eqb s 0 (λ z. omega arith))
     (ap (λ (z : ℕ). counted log z N) de ∙ ap (λ (z : ℕ). counted log (aligned n) z) (ne ∙ ap (sum_dividend s) de))
 
+-- a number of size zero is not below it
+no_sign : (z : ℤ) → nat_abs z ≡ 0 → below_zero z ≡ false
+no_sign (pos n) e = refl
+no_sign (negsuc n) e = absurd (omega arith)
+
+-- ---- either average, by its sum
+pub average_is : (which : Average) (m : Meaning) (xs : List Encoding) → average_of which m xs ≡ rounded binary32 m (record { negative = sum_sign which xs; num = sum_size which xs; den = length xs * 2 ^ sum_unit which })
+average_is Mean m xs = refl
+average_is MeanSquare m xs = refl
+
+pub average_asks : (which : Average) (log : Log) (xs : List Encoding) → average_log which log xs ≡ sum_log log (sum_size which xs) (length xs)
+average_asks Mean log xs = refl
+average_asks MeanSquare log xs = refl
+
 -- nothing stands: nothing is asked
-pub empty_mean_log : (log : Log) (xs : List Encoding) → length xs ≡ 0 → mean_log log xs ≡ log
+pub empty_log : (which : Average) (log : Log) (xs : List Encoding) → length xs ≡ 0 → average_log which log xs ≡ log
 unfolding sum_z
-empty_mean_log log [] e = refl
-empty_mean_log log (x ∷ xs) e = absurd (omega arith)
+empty_log Mean log [] e = refl
+empty_log MeanSquare log [] e = refl
+empty_log which log (x ∷ xs) e = absurd (omega arith)
 
-pub empty_mean_square_log : (log : Log) (xs : List Encoding) → length xs ≡ 0 → mean_square_log log xs ≡ log
-empty_mean_square_log log [] e = refl
-empty_mean_square_log log (x ∷ xs) e = absurd (omega arith)
-
--- a sum of size zero is not below it
-pub zero_sign : (z : ℤ) → nat_abs z ≡ 0 → below_zero z ≡ false
-zero_sign (pos n) e = refl
-zero_sign (negsuc n) e = absurd (omega arith)
+-- a sum of zero has no sign
+pub zero_sign : (which : Average) (xs : List Encoding) → sum_size which xs ≡ 0 → sum_sign which xs ≡ false
+zero_sign Mean xs e = no_sign (total xs) e
+zero_sign MeanSquare xs e = refl

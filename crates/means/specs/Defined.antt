@@ -8,6 +8,8 @@ use Rattle.rounding.specs.Rounding.{Outcome, rounded, doublings}
 use Rattle.arithmetic.specs.Defined.{aligned}
 use Rattle.engines.specs.declared.meaning.Log.{Log}
 use Rattle.engines.specs.Meaning.{counted}
+use Rattle.window.specs.declared.average.Average.{Average}
+use Rattle.window.specs.declared.average.Average.TheVariants.{Mean, MeanSquare}
 use Rattle.window.specs.Replies.{total, total_squares, below_zero}
 
 -- The exact mean: the sum over the number. The sum is in units of 2^-149.
@@ -38,3 +40,12 @@ mean_log log xs = sum_log log (unsigned_abs (total xs)) (length xs)
 
 abbrev pub mean_square_log : Log → List Encoding → Log
 mean_square_log log xs = sum_log log (total_squares xs) (length xs)
+
+-- The same by the average that is asked for.
+abbrev pub average_of : Average → Meaning → List Encoding → Outcome
+average_of Mean = mean
+average_of MeanSquare = mean_square
+
+abbrev pub average_log : Average → Log → List Encoding → Log
+average_log Mean = mean_log
+average_log MeanSquare = mean_square_log

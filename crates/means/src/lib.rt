@@ -2,6 +2,6 @@
 #![tactic(auto)]
 
 mod answering;
-pub mod mean;
+pub mod average;
 #[cfg(test)]
 mod tests;

@@ -1,9 +1,10 @@
 // The edges of a window, and means across the whole range of exponents.
-use crate::mean::{mean, mean_square};
+use crate::average::average;
 use arithmetic::standing::StandingFlags;
 use engines::digits::Digits;
 use rounding::encoding::Encoding;
 use rounding::rules::Even;
+use window::average::Average;
 use window::reading::Reading;
 use window::window::Window;
 
@@ -15,18 +16,10 @@ fn take(window: &mut Window, bits: u32) -> bool {
     }
 }
 
-// The mean's encoding and flags, over `digits` and ties to even; 0 where none stands.
-fn mean_of(window: &Window) -> (u32, u8) {
+// The average's encoding and flags, over `digits` and ties to even; 0 where none stands.
+fn average_of(window: &Window, which: Average) -> (u32, u8) {
     let mut flags = StandingFlags::new();
-    match mean(window, &mut Digits::new(), &Even, &mut flags) {
-        Ok(answer) => (answer.encoding.to_bits(), answer.flags.number()),
-        Err(_) => (0, 0),
-    }
-}
-
-fn mean_square_of(window: &Window) -> (u32, u8) {
-    let mut flags = StandingFlags::new();
-    match mean_square(window, &mut Digits::new(), &Even, &mut flags) {
+    match average(window, which, &mut Digits::new(), &Even, &mut flags) {
         Ok(answer) => (answer.encoding.to_bits(), answer.flags.number()),
         Err(_) => (0, 0),
     }
@@ -40,7 +33,7 @@ fn fills_drains_and_refills(rt: HostRuntime) {
         assert!(rt; take(&mut window, 0x3f80_0000));
     }
     assert!(rt; !take(&mut window, 0x3f80_0000));
-    assert_eq!(rt; mean_of(&window), (0x3f80_0000, 0));
+    assert_eq!(rt; average_of(&window, Average::Mean), (0x3f80_0000, 0));
     for _i in 0u32..144 {
         assert!(rt; window.retire().is_ok());
         assert!(rt; window.retract().is_ok());
@@ -50,7 +43,7 @@ fn fills_drains_and_refills(rt: HostRuntime) {
         assert!(rt; take(&mut window, 0xc000_0000));
     }
     assert!(rt; !take(&mut window, 0xc000_0000));
-    assert_eq!(rt; mean_of(&window), (0xc000_0000, 0));
+    assert_eq!(rt; average_of(&window, Average::Mean), (0xc000_0000, 0));
 }
 
 // The greatest number and its opposite cancel, exactly, and what a subnormal adds is kept.
@@ -59,10 +52,10 @@ fn cancels_across_all_exponents(rt: HostRuntime) {
     let mut window = Window::new();
     assert!(rt; take(&mut window, 0x7f7f_ffff));
     assert!(rt; take(&mut window, 0xff7f_ffff));
-    assert_eq!(rt; mean_of(&window), (0, 0));
+    assert_eq!(rt; average_of(&window, Average::Mean), (0, 0));
     assert!(rt; take(&mut window, 0x0000_0003));
-    assert_eq!(rt; mean_of(&window), (0x0000_0001, 0));
-    assert_eq!(rt; mean_square_of(&window), (0x7f80_0000, 20));
+    assert_eq!(rt; average_of(&window, Average::Mean), (0x0000_0001, 0));
+    assert_eq!(rt; average_of(&window, Average::MeanSquare), (0x7f80_0000, 20));
 }
 
 // The worked example of a mean.
@@ -72,5 +65,5 @@ fn mean_of_three(rt: HostRuntime) {
     assert!(rt; take(&mut window, 0x3f80_0000));
     assert!(rt; take(&mut window, 0x3f80_0000));
     assert!(rt; take(&mut window, 0x4000_0000));
-    assert_eq!(rt; mean_of(&window), (0x3faa_aaab, 16));
+    assert_eq!(rt; average_of(&window, Average::Mean), (0x3faa_aaab, 16));
 }
