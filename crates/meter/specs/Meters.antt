@@ -1,7 +1,12 @@
--- The meaning of a meter.
-use Rattle.window.specs.Window.{standing}
-use Rattle.meter.specs.declared.meter.Meter.{Meter}
+-- What a contract sees of a meter.
 use Rattle.meter.specs.Model.{Model}
 
-abbrev pub model : {E R : Type 0} → Meter E R → Model
-model m = record { address = m.address.number; pending = m.pending; replies = standing m.window }
+-- the reference model, the engine and the rule
+pub record Seen (E R : Type 0) : Type 0 where
+  pub model : Model
+  pub engine : E
+  pub rule : R
+
+-- a meter that is like another but for its model
+abbrev pub with_model : {E R : Type 0} → Seen E R → Model → Seen E R
+with_model m b = record { model = b; engine = m.engine; rule = m.rule }

@@ -3,6 +3,9 @@
 use Rattle.std.specs.Prelude.{ℕ, ◌-◌, Bool, true, false, cond, not, List, [], ◌∷◌, ◌++◌, length, take, drop, Some, None, Option, ◌==◌, nat_le}
 use Rattle.rounding.specs.declared.encoding.Encoding.{Encoding}
 use Rattle.rounding.specs.Format.{binary32, is_finite}
+use Rattle.window.specs.declared.fault.WindowFault.TheVariants.{Full, Empty}
+use Rattle.meter.specs.declared.fault.MeterFault.{MeterFault}
+use Rattle.meter.specs.declared.fault.MeterFault.TheVariants.{Window, NotFinite, OtherAddress, StillPending, NonePending, LastAttempt}
 use Rattle.meter.specs.declared.call.Call.{Call}
 use Rattle.meter.specs.declared.call.Call.TheVariants.{Poll, Repeat, Reply, Lapse, Retire, Retract, Quotient, Square, Mean, MeanSquare}
 use Rattle.meter.specs.Attempts.{attempt_number}
@@ -16,30 +19,30 @@ pub record Model : Type 0 where
 abbrev pub fresh : ℕ → Model
 fresh a = record { address = a; pending = false; replies = [] }
 
--- the first test that holds gives its number
-abbrev pub first : Bool → ℕ → Option ℕ → Option ℕ
-first test number rest = cond test (Some number) rest
+-- the first test that holds gives its fault
+abbrev pub first : {A : Type 0} → Bool → A → Option A → Option A
+first test fault rest = cond test (Some fault) rest
 
 -- The refusals, test by test, in their order. A poll is named by its address and attempt.
-abbrev pub refuses_poll : Model → Option ℕ
-refuses_poll m = first m.pending 5 None
+abbrev pub refuses_poll : Model → Option MeterFault
+refuses_poll m = first m.pending StillPending None
 
-abbrev pub refuses_ended : Model → ℕ → Option ℕ → Option ℕ
-refuses_ended m address rest = first (not m.pending) 6 (first (not (address == m.address)) 4 rest)
+abbrev pub refuses_ended : Model → ℕ → Option MeterFault → Option MeterFault
+refuses_ended m address rest = first (not m.pending) NonePending (first (not (address == m.address)) OtherAddress rest)
 
-abbrev pub refuses_repeat : Model → ℕ → ℕ → Option ℕ
-refuses_repeat m address attempt = refuses_ended m address (first (nat_le 3 attempt) 9 None)
+abbrev pub refuses_repeat : Model → ℕ → ℕ → Option MeterFault
+refuses_repeat m address attempt = refuses_ended m address (first (nat_le 3 attempt) LastAttempt None)
 
-abbrev pub refuses_reply : Model → ℕ → Encoding → Option ℕ
-refuses_reply m address x = refuses_ended m address (first (not (is_finite binary32 x.bits)) 3 (first (nat_le 288 (length m.replies)) 7 None))
+abbrev pub refuses_reply : Model → ℕ → Encoding → Option MeterFault
+refuses_reply m address x = refuses_ended m address (first (not (is_finite binary32 x.bits)) NotFinite (first (nat_le 288 (length m.replies)) (Window Full) None))
 
-abbrev pub refuses_lapse : Model → ℕ → Option ℕ
+abbrev pub refuses_lapse : Model → ℕ → Option MeterFault
 refuses_lapse m address = refuses_ended m address None
 
-abbrev pub refuses_empty : Model → Option ℕ
-refuses_empty m = first (length m.replies == 0) 8 None
+abbrev pub refuses_empty : Model → Option MeterFault
+refuses_empty m = first (length m.replies == 0) (Window Empty) None
 
-abbrev pub refusal : Model → Call → Option ℕ
+abbrev pub refusal : Model → Call → Option MeterFault
 refusal m Poll = refuses_poll m
 refusal m (Repeat p) = refuses_repeat m p.address.number (attempt_number p.attempt)
 refusal m (Reply p x) = refuses_reply m p.address.number x
@@ -52,9 +55,9 @@ refusal m Mean = refuses_empty m
 refusal m MeanSquare = refuses_empty m
 
 -- what is left where a call is refused, and what it makes of the model where it is not
-abbrev pub unless : Option ℕ → Model → Model → Model
+abbrev pub unless : {A : Type 0} → Option A → Model → Model → Model
 unless None new old = new
-unless (Some n) new old = old
+unless (Some fault) new old = old
 
 -- What accepted calls do: a poll becomes pending; a reply stands as the newest and ends its poll, which a lapse does alone; the oldest
 -- or the newest reply goes.

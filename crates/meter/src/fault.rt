@@ -1,4 +1,4 @@
-// What a meter refuses. A fault of the window is carried inside, with its layer and number.
+// What a meter refuses. A fault of the window is carried inside, with its layer and number, by a rule of the project.
 ghost use Rattle.std.specs.Prelude.{◌≡◌};
 ghost use Rattle.meter.specs.Faults.{number, layer_of};
 ghost use Rattle.meter.specs.declared.fault.MeterFault.TheVariants as faults;
@@ -31,6 +31,7 @@ pub enum MeterFault {
 }
 
 impl MeterFault {
+    // A match and no cast: a fault of the window has its own number.
     pub fn number(self) -> u8
         ensures { result ≡ number self }
     {

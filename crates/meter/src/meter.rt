@@ -1,5 +1,6 @@
 // The meter itself: what it holds.
 use crate::address::Address;
+use std::marker::Model;
 use window::window::Window;
 
 mod computing;
@@ -13,4 +14,15 @@ pub struct Meter<E, R> {
     engine: E,
     rule: R,
     window: Window,
+}
+
+// Contracts see the reference model in place of address, pending poll and window.
+impl<E, R> Model for Meter<E, R> {
+    ghost use Rattle.meter.specs.Meters.{Seen};
+
+    ghost Value = { Seen E R };
+
+    ghost use Rattle.window.specs.Window.{standing};
+
+    ghost view = { λ m. record { model = record { address = m.address.number; pending = m.pending; replies = standing m.window }; engine = m.engine; rule = m.rule } };
 }

@@ -1,10 +1,11 @@
 // A meter's standing replies: taken away from either end, counted, read, and the greatest of them.
-ghost use Rattle.std.specs.Prelude.{◌≡◌, ◌+◌, ◌≤◌, length, Some, None, MatchResult};
+ghost use Rattle.std.specs.Prelude.{◌≡◌, ℕ, ◌+◌, ◌<◌, ◌≤◌, length, slice_index_or, IfSome, Some, None, MatchResult};
 ghost use Rattle.std.specs.List.{slice_get};
 ghost use Rattle.window.specs.Peak.{Peaks};
+ghost use Rattle.window.specs.Replies.{Finite};
+ghost use Rattle.window.specs.Ring.{blank};
 ghost use Rattle.window.specs.Window.{newest_of};
-ghost use Rattle.meter.specs.Faults.{number};
-ghost use Rattle.meter.specs.Meters.{model};
+ghost use Rattle.meter.specs.Meters.{with_model};
 ghost use Rattle.meter.specs.Model.{refuses_empty, unless, retired, retracted};
 
 use super::Meter;
@@ -16,54 +17,53 @@ use window::peak::Peak;
 impl<E, R> Meter<E, R> {
     // The oldest reply goes; answers how many still stand.
     pub fn retire(&mut self) -> Result<usize, MeterFault>
-        ensures result { MatchResult result (λ n. (refuses_empty (model self.old) ≡ None) × (n + 1 ≡ length (model self.old).replies)) (λ fault. refuses_empty (model self.old) ≡ Some (number fault)) }
-        ensures after { model self.new ≡ unless (refuses_empty (model self.old)) (retired (model self.old)) (model self.old) }
-        ensures engine { self.new.engine ≡ self.old.engine }
-        ensures rule { self.new.rule ≡ self.old.rule }
+        ensures result { MatchResult result (λ n. (refuses_empty self.old.model ≡ None) × (n + 1 ≡ length self.old.model.replies) × (n < 288)) (λ fault. refuses_empty self.old.model ≡ Some fault) }
+        ensures after { self.new ≡ with_model self.old (unless (refuses_empty self.old.model) (retired self.old.model) self.old.model) }
     {
         Ok(self.window.retire()?)
     }
 
     // The newest reply goes; answers how many still stand.
     pub fn retract(&mut self) -> Result<usize, MeterFault>
-        ensures result { MatchResult result (λ n. (refuses_empty (model self.old) ≡ None) × (n + 1 ≡ length (model self.old).replies)) (λ fault. refuses_empty (model self.old) ≡ Some (number fault)) }
-        ensures after { model self.new ≡ unless (refuses_empty (model self.old)) (retracted (model self.old)) (model self.old) }
-        ensures engine { self.new.engine ≡ self.old.engine }
-        ensures rule { self.new.rule ≡ self.old.rule }
+        ensures result { MatchResult result (λ n. (refuses_empty self.old.model ≡ None) × (n + 1 ≡ length self.old.model.replies) × (n < 288)) (λ fault. refuses_empty self.old.model ≡ Some fault) }
+        ensures after { self.new ≡ with_model self.old (unless (refuses_empty self.old.model) (retracted self.old.model) self.old.model) }
     {
         Ok(self.window.retract()?)
     }
 
     // The greatest standing reply by value and its place, counted from 1 at the oldest; the oldest among equals.
     pub fn peak(&self) -> Result<Peak, MeterFault>
-        ensures { MatchResult result (λ peak. (refuses_empty (model self.now) ≡ None) × Peaks (model self.now).replies peak) (λ fault. refuses_empty (model self.now) ≡ Some (number fault)) }
+        ensures { MatchResult result (λ peak. (refuses_empty self.now.model ≡ None) × Peaks self.now.model.replies peak × (peak.place ≤ 288)) (λ fault. refuses_empty self.now.model ≡ Some fault) }
     {
         Ok(self.window.peak()?)
     }
 
     pub fn newest(&self) -> Option<Encoding>
-        ensures { result ≡ newest_of (model self.now).replies }
+        ensures is { result ≡ newest_of self.now.model.replies }
+        ensures finite { IfSome result Finite }
     {
         self.window.newest()
     }
 
     // The i-th standing reply, counted from 0 at the oldest.
     pub fn reply_at(&self, i: usize) -> Option<Encoding>
-        ensures { result ≡ slice_get (model self.now).replies i }
+        ensures is { result ≡ slice_get self.now.model.replies i }
+        ensures finite { IfSome result Finite }
     {
         self.window.get(i)
     }
 
-    // How many replies stand.
+    // How many replies stand. All of them are finite.
     pub fn standing(&self) -> usize
-        ensures is { result ≡ length (model self.now).replies }
+        ensures is { result ≡ length self.now.model.replies }
         ensures few { result ≤ 288 }
+        ensures finite { (k : ℕ) → Finite (slice_index_or self.now.model.replies k blank) }
     {
         self.window.count()
     }
 
     pub fn address(&self) -> Address
-        ensures { result ≡ self.now.address }
+        ensures { result.number ≡ self.now.model.address }
     {
         self.address
     }

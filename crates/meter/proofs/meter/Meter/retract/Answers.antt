@@ -1,7 +1,8 @@
-use Rattle.std.proofs.Common.{rules}
-use Rattle.window.specs.Window.{standing}
-use Rattle.meter.proofs.Standing.{none_taken}
+use Rattle.std.proofs.Common.{arith, rules}
+use Rattle.window.proofs.Facts.{standing_few}
 use Rattle.meter.proofs.meter.Meter.retract.Goals as goal
 
-pub returns-in_err-retract : goal.returns-in_err-retract
-returns-in_err-retract g c = let e = none_taken (standing c.args.self.now.window) in search rules
+pub returns-clause-result : goal.returns-clause-result
+returns-clause-result g c =
+    let left = c.in_ok-retract.ensures.result in
+    rw (← c.self.view_is) (search rules, left, omega (arith, left, standing_few c.self.inside.window))

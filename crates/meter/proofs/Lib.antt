@@ -1,2 +1,0 @@
--- Lemmas of the meter.
-pub mod Standing
