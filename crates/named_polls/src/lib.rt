@@ -9,18 +9,11 @@ use meter::address::Address;
 use meter::call::{Attempt, NamedPoll};
 use replay::step::SeenPoll;
 
-// The poll of these numbers, where a meter can have given one. Any two numbers may come from outside.
+// The poll of these numbers, where a meter can have given one. Any two numbers may come from outside. No TryFrom: both types are other crates'.
 pub fn named(seen: SeenPoll) -> Option<NamedPoll>
     ensures { MatchOption result (is_poll seen ≡ false) (λ poll. (is_poll seen ≡ true) × (poll.address.number ≡ seen.address) × (attempt_number poll.attempt ≡ seen.attempt)) }
 {
-    let Ok(address) = Address::new(seen.address as u16) else {
-        return None;
-    };
-    let attempt = match seen.attempt {
-        1 => Attempt::First,
-        2 => Attempt::Second,
-        3 => Attempt::Third,
-        _ => return None,
-    };
+    let address = Address::try_from(u16::from(seen.address)).ok()?;
+    let attempt = Attempt::try_from(seen.attempt).ok()?;
     Some(NamedPoll { address, attempt })
 }

@@ -1,5 +1,7 @@
 -- The promise over whole runs, from what each step tells of its call.
-use Rattle.std.proofs.Common.{◌≡◌, ℕ, zero, suc, ◌+◌, ◌-◌, ◌*◌, ◌^◌, ◌<◌, Bool, List, [], ◌∷◌, ◌++◌, length, take, replicate, Some, sym, refl, ap, ◌∙◌, subst, arith, lit<}
+use Rattle.std.proofs.Common.{◌≡◌, ℕ, ◌+◌, ◌-◌, ◌*◌, ◌^◌, ◌<◌, Bool, List, [], ◌∷◌, ◌++◌, length, take, replicate, Some, Ok, sym, refl, ap, ◌∙◌, subst, lit<}
+use Rattle.std.proofs.lemmas.List.{take_at, take_more}
+use Rattle.std.proofs.lemmas.Option.{slice_get_within, get_or_from_slice_get}
 use Rattle.std.specs.List.{slice_get}
 use Rattle.engines.specs.declared.meaning.Log.{Log}
 use Rattle.rounding.specs.Format.{binary32}
@@ -88,13 +90,7 @@ asks_push log b [] c = refl
 asks_push log b (d ∷ cs) c = asks_push (asked log b d) (after b d) cs c
 
 pub take_push : {A : Type 0} (xs : List A) (k : ℕ) (x : A) → slice_get xs k ≡ Some x → take (k + 1) xs ≡ take k xs ++ x ∷ []
-take_push [] k x e = let z : ◌≡◌ {A = ℕ} 0 1 = cc in absurd (omega arith)
-take_push (y ∷ ys) zero x e = let q : y ≡ x = cc in ap (λ z. z ∷ []) q
-take_push (y ∷ ys) (suc k) x e = let s : suc k + 1 ≡ suc (k + 1) = omega arith in rw s (ap (λ zs. y ∷ zs) (take_push ys k x e))
-
-taken_front : {A : Type 0} (xs ys : List A) → take (length xs) (xs ++ ys) ≡ xs
-taken_front [] ys = refl
-taken_front (x ∷ xs) ys = ap (λ zs. x ∷ zs) (taken_front xs ys)
+take_push xs k x e = take_more xs k x (slice_get_within xs k x e) ∙ ap (λ z. take k xs ++ z ∷ []) (get_or_from_slice_get xs k x x e)
 
 -- the run of one meter, watched
 pub watched : (r : Run) → length r.steps ≡ length r.lent → Written r.rule r.engine (fresh r.address) r.calls r.lent r.steps → Watched r
@@ -105,10 +101,10 @@ watched r room w =
           λ k c s at.
           let t = w.each k c s at.given at.written in
           ap (λ (n : ℕ). take n s.standing) t.counted ∙ ap (take (length (after (before r k) c).replies)) t.listed
-          ∙ taken_front (after (before r k) c).replies (replicate (288 - length (after (before r k) c).replies) (record { bits = 0 }));
+          ∙ take_at (after (before r k) c).replies (replicate (288 - length (after (before r k) c).replies) (record { bits = 0 })) _ refl;
       numbers =
           λ k c s o at ok e.
-          (w.each k c s at.given at.written).answer ∙ told_accepted r.rule (before r k) c ok ∙ accepted_number r.rule (before r k) c o e;
+          (w.each k c s at.given at.written).answer ∙ told_accepted r.rule (before r k) c ok ∙ ap Ok (accepted_number r.rule (before r k) c o e);
       answers = λ k c s at. (w.each k c s at.given at.written).answer;
       asks =
           λ k c s at.

@@ -1,7 +1,8 @@
 -- What a call's answer tells: its refusal, its number, its exact value.
-use Rattle.std.proofs.Common.{◌≡◌, ℕ, ◌*◌, ◌^◌, ◌<◌, Bool, true, false, cond, not, ◌&&◌, eqb, length, Some, None, Option, refl, ap, ◌∙◌, subst, arith, lit<}
+use Rattle.std.proofs.Common.{◌≡◌, ℕ, ◌*◌, ◌^◌, ◌<◌, Bool, true, false, cond, not, ◌&&◌, eqb, length, Some, None, Option, Ok, Result, refl, ap, ◌∙◌, subst, arith, lit<}
 use Rattle.std.proofs.lemmas.Bool.{eqb-false, ne_eqb, ltb-true, le-ltb, and_parts, not-true}
 use Rattle.std.proofs.lemmas.Nat.{mul-le, pow_pos}
+use Rattle.std.proofs.lemmas.Option.{none-some, same_Some, cond_some}
 use Rattle.rounding.specs.declared.encoding.Encoding.{Encoding}
 use Rattle.rounding.specs.declared.round.Answer.{Answer}
 use Rattle.rounding.specs.Format.{binary32, size, is_finite, is_zero}
@@ -13,65 +14,32 @@ use Rattle.arithmetic.specs.Defined.{quotient_value, square_value, has_quotient}
 use Rattle.arithmetic.proofs.Quotients.{quotient_rounds, square_rounds, divisor_pos}
 use Rattle.means.specs.Defined.{mean_value, mean_square_value}
 use Rattle.meter.specs.declared.call.Call.{Call}
-use Rattle.meter.specs.declared.call.Call.TheVariants.{Poll, Repeat, Reply, Lapse, Retire, Retract, Quotient, Square, Mean, MeanSquare}
+use Rattle.meter.specs.declared.call.Call.TheVariants.{Quotient, Square, Mean, MeanSquare}
+use Rattle.meter.specs.declared.fault.MeterFault.{MeterFault}
 use Rattle.meter.specs.Model.{Model, refusal}
+use Rattle.replay.specs.declared.step.Refusal.{Refusal}
 use Rattle.replay.specs.declared.step.Told.{Told}
 use Rattle.replay.specs.declared.step.Told.TheVariants.{Number}
 use Rattle.replay.specs.Calls.{computed, exact_of, answer_of, accepted, refused, either, told, refused_by}
 
--- an accepted call refuses nothing, a refused one by its number
-accepted_refuses : (m : Meaning) (b : Model) (c : Call) → refused_by (accepted m b c) ≡ None
-accepted_refuses m b Poll = refl
-accepted_refuses m b (Repeat p) = refl
-accepted_refuses m b (Reply p x) = refl
-accepted_refuses m b (Lapse p) = refl
-accepted_refuses m b Retire = refl
-accepted_refuses m b Retract = refl
-accepted_refuses m b (Quotient x y) = refl
-accepted_refuses m b (Square x) = refl
-accepted_refuses m b Mean = refl
-accepted_refuses m b MeanSquare = refl
-
-refused_refuses : (c : Call) (n : ℕ) → refused_by (refused c n) ≡ Some n
-refused_refuses Poll n = refl
-refused_refuses (Repeat p) n = refl
-refused_refuses (Reply p x) n = refl
-refused_refuses (Lapse p) n = refl
-refused_refuses Retire n = refl
-refused_refuses Retract n = refl
-refused_refuses (Quotient x y) n = refl
-refused_refuses (Square x) n = refl
-refused_refuses Mean n = refl
-refused_refuses MeanSquare n = refl
-
-either_refuses : (o : Option ℕ) (a : Told) (c : Call) → refused_by a ≡ None → refused_by (either o a (refused c)) ≡ o
-either_refuses None a c e = e
-either_refuses (Some n) a c e = refused_refuses c n
+-- an answer refuses by the fault of its refusal
+either_refuses : (o : Option MeterFault) (t : Told) (c : Call) → refused_by (either o t (refused c)) ≡ o
+either_refuses None t c = refl
+either_refuses (Some fault) t c = refl
 
 pub told_refuses : (m : Meaning) (b : Model) (c : Call) → refused_by (told m b c) ≡ refusal b c
-told_refuses m b c = either_refuses (refusal b c) (accepted m b c) c (accepted_refuses m b c)
+told_refuses m b c = either_refuses (refusal b c) (accepted m b c) c
 
-pub told_accepted : (m : Meaning) (b : Model) (c : Call) → refusal b c ≡ None → told m b c ≡ accepted m b c
-told_accepted m b c e = ap (λ (o : Option ℕ). either o (accepted m b c) (refused c)) e
-
-some_only : {A : Type 0} (x y : A) → Some x ≡ Some y → x ≡ y
-some_only x y e = cc
-
-none_some : {A : Type 0} (x : A) → None ≡ Some x → ⊥
-none_some x e = let z : ◌≡◌ {A = ℕ} 0 1 = cc in omega arith
+pub told_accepted : (m : Meaning) (b : Model) (c : Call) → refusal b c ≡ None → told m b c ≡ Ok (accepted m b c)
+told_accepted m b c e = ap (λ (o : Option MeterFault). either o (accepted m b c) (refused c)) e
 
 -- an accepted call that computes answers the defined number
 pub accepted_number : (m : Meaning) (b : Model) (c : Call) (o : Outcome) → computed m b c ≡ Some o → accepted m b c ≡ Number (answer_of o)
-accepted_number m b Poll o e = absurd (none_some o e)
-accepted_number m b (Repeat p) o e = absurd (none_some o e)
-accepted_number m b (Reply p x) o e = absurd (none_some o e)
-accepted_number m b (Lapse p) o e = absurd (none_some o e)
-accepted_number m b Retire o e = absurd (none_some o e)
-accepted_number m b Retract o e = absurd (none_some o e)
-accepted_number m b (Quotient x y) o e = ap (λ (z : Outcome). Number (answer_of z)) (some_only _ o e)
-accepted_number m b (Square x) o e = ap (λ (z : Outcome). Number (answer_of z)) (some_only _ o e)
-accepted_number m b Mean o e = ap (λ (z : Outcome). Number (answer_of z)) (some_only _ o e)
-accepted_number m b MeanSquare o e = ap (λ (z : Outcome). Number (answer_of z)) (some_only _ o e)
+accepted_number m b (Quotient x y) o e = ap (λ (z : Outcome). Number (answer_of z)) (same_Some _ o e)
+accepted_number m b (Square x) o e = ap (λ (z : Outcome). Number (answer_of z)) (same_Some _ o e)
+accepted_number m b Mean o e = ap (λ (z : Outcome). Number (answer_of z)) (same_Some _ o e)
+accepted_number m b MeanSquare o e = ap (λ (z : Outcome). Number (answer_of z)) (same_Some _ o e)
+accepted_number m b _ o e = absurd (none-some _ e)
 
 -- a finite encoding, by its tests
 finite_tests : (x : ℕ) → is_finite binary32 x ≡ true → Tests x false false true (is_zero binary32 x)
@@ -85,13 +53,9 @@ pub record Rounds (m : Meaning) (b : Model) (c : Call) (v : Exact) : Type 0 wher
   pub computes : computed m b c ≡ Some (rounded binary32 m v)
   pub divides : 0 < v.den
 
-cond_some : {A : Type 0} (t : Bool) (x y : A) → cond t (Some x) None ≡ Some y → (t ≡ true) × (x ≡ y)
-cond_some true x y e = (refl, some_only x y e)
-cond_some false x y e = absurd (none_some y e)
-
 cond_none : {A : Type 0} (t : Bool) (x y : A) → cond t None (Some x) ≡ Some y → (t ≡ false) × (x ≡ y)
-cond_none false x y e = (refl, some_only x y e)
-cond_none true x y e = absurd (none_some y e)
+cond_none false x y e = (refl, same_Some x y e)
+cond_none true x y e = absurd (none-some _ e)
 
 quotient_rounds_at : (m : Meaning) (b : Model) (x y : Encoding) (v : Exact) → exact_of b (Quotient x y) ≡ Some v → Rounds m b (Quotient x y) v
 quotient_rounds_at m b x y v e =
@@ -127,23 +91,18 @@ mean_square_rounds_at m b v e =
     subst (Rounds m b MeanSquare) p.1 (record { accepts = simp p.0 refl; computes = refl; divides = scaled_pos (length b.replies) 298 p.0 })
 
 pub rounds : (m : Meaning) (b : Model) (c : Call) (v : Exact) → exact_of b c ≡ Some v → Rounds m b c v
-rounds m b Poll v e = absurd (none_some v e)
-rounds m b (Repeat p) v e = absurd (none_some v e)
-rounds m b (Reply p x) v e = absurd (none_some v e)
-rounds m b (Lapse p) v e = absurd (none_some v e)
-rounds m b Retire v e = absurd (none_some v e)
-rounds m b Retract v e = absurd (none_some v e)
 rounds m b (Quotient x y) v e = quotient_rounds_at m b x y v e
 rounds m b (Square x) v e = square_rounds_at m b x v e
 rounds m b Mean v e = mean_rounds_at m b v e
 rounds m b MeanSquare v e = mean_square_rounds_at m b v e
+rounds m b _ v e = absurd (none-some _ e)
 
 -- so its answer is the rounded exact value
-pub told_number : (m : Meaning) (b : Model) (c : Call) (v : Exact) → exact_of b c ≡ Some v → (told m b c ≡ Number (answer_of (rounded binary32 m v))) × (0 < v.den)
+pub told_number : (m : Meaning) (b : Model) (c : Call) (v : Exact) → exact_of b c ≡ Some v → (told m b c ≡ Ok (Number (answer_of (rounded binary32 m v)))) × (0 < v.den)
 told_number m b c v e =
     let r = rounds m b c v e in
-    (told_accepted m b c r.accepts ∙ accepted_number m b c (rounded binary32 m v) r.computes, r.divides)
+    (told_accepted m b c r.accepts ∙ ap Ok (accepted_number m b c (rounded binary32 m v) r.computes), r.divides)
 
-pub number_only : (o p : Outcome) → Number (answer_of o) ≡ Number (answer_of p) → (o.bits ≡ p.bits) × (o.flags ≡ p.flags)
+pub number_only : (o p : Outcome) → ◌≡◌ {A = Result Told Refusal} (Ok (Number (answer_of o))) (Ok (Number (answer_of p))) → (o.bits ≡ p.bits) × (o.flags ≡ p.flags)
 number_only o p e =
     let a : answer_of o ≡ answer_of p = cc in (ap (λ (z : Answer). z.encoding.bits) a, ap (λ (z : Answer). z.flags.number) a)

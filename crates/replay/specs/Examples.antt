@@ -5,7 +5,10 @@ use Rattle.rounding.specs.Format.{binary32}
 use Rattle.rounding.specs.Rules.{even_rule, zero_rule, up_rule}
 use Rattle.arithmetic.specs.Defined.{quotient, square, plain}
 use Rattle.means.specs.Defined.{mean}
+use Rattle.window.specs.declared.fault.WindowFault.TheVariants.{Full}
+use Rattle.meter.specs.declared.fault.MeterFault.TheVariants.{Window, Address, LastAttempt}
 use Rattle.meter.specs.Addresses.{refuses_address}
+use Rattle.meter.specs.Faults.{number}
 use Rattle.meter.specs.Model.{Model, refuses_repeat, refuses_reply}
 
 abbrev pub one : Encoding
@@ -36,12 +39,15 @@ pub record Examples : Type 0 where
   -- addresses
   pub least_address : refuses_address 1 ≡ None
   pub greatest_address : refuses_address 247 ≡ None
-  pub address_below : refuses_address 0 ≡ Some 2
-  pub address_above : refuses_address 248 ≡ Some 2
+  pub address_below : refuses_address 0 ≡ Some Address
+  pub address_above : refuses_address 248 ≡ Some Address
+  pub address_number : number Address ≡ 2
   -- the 288th reply stands, the next one is refused
   pub last_reply : refuses_reply (waiting 287) 17 one ≡ None
-  pub reply_too_many : refuses_reply (waiting 288) 17 one ≡ Some 7
+  pub reply_too_many : refuses_reply (waiting 288) 17 one ≡ Some (Window Full)
+  pub full_number : number (Window Full) ≡ 7
   -- two repeats pass, a third is refused
   pub first_repeat : refuses_repeat (waiting 0) 17 1 ≡ None
   pub second_repeat : refuses_repeat (waiting 0) 17 2 ≡ None
-  pub third_repeat : refuses_repeat (waiting 0) 17 3 ≡ Some 9
+  pub third_repeat : refuses_repeat (waiting 0) 17 3 ≡ Some LastAttempt
+  pub last_number : number LastAttempt ≡ 9

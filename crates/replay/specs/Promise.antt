@@ -1,6 +1,6 @@
 -- The promise over whole runs: what a meter refuses, holds and answers, and how any two answers compare, whatever engines,
 -- rules and calls.
-use Rattle.std.specs.Prelude.{◌≡◌, ℕ, ◌+◌, ◌<◌, Bool, List, length, take, drop, Some, None}
+use Rattle.std.specs.Prelude.{◌≡◌, ℕ, ◌+◌, ◌<◌, Bool, List, length, take, drop, Some, None, Ok}
 use Rattle.std.specs.List.{slice_get}
 use Rattle.engines.specs.declared.meaning.Log.{Log}
 use Rattle.rounding.specs.declared.rest.Rest.{Rest}
@@ -37,12 +37,12 @@ pub record At (r : Run) (k : ℕ) (c : Call) (s : Step) : Type 0 where
 
 -- What a run tells of one meter.
 pub record Watched (r : Run) : Type 0 where
-  -- it refuses exactly what the model refuses, with the same number
+  -- it refuses exactly what the model refuses, with the same fault, and so with the same number
   pub refuses : (k : ℕ) (c : Call) (s : Step) → At r k c s → refused_by s.told ≡ refusal (before r k) c
   -- after each call its window is the model's replies, encoding by encoding, in their order
   pub window : (k : ℕ) (c : Call) (s : Step) → At r k c s → stands s ≡ (after (before r k) c).replies
   -- what it accepts to compute has the defined encoding and flags
-  pub numbers : (k : ℕ) (c : Call) (s : Step) (o : Outcome) → At r k c s → refusal (before r k) c ≡ None → computed r.rule (before r k) c ≡ Some o → s.told ≡ Number (answer_of o)
+  pub numbers : (k : ℕ) (c : Call) (s : Step) (o : Outcome) → At r k c s → refusal (before r k) c ≡ None → computed r.rule (before r k) c ≡ Some o → s.told ≡ Ok (Number (answer_of o))
   -- every answer is the one defined, tokens and counts included
   pub answers : (k : ℕ) (c : Call) (s : Step) → At r k c s → s.told ≡ told r.rule (before r k) c
   -- the engine was asked as defined, and no further
@@ -57,7 +57,7 @@ pub record Answered (r : Run) (k : ℕ) (v : Exact) (x flags : ℕ) : Type 0 whe
   pub step : Step
   pub at : At r k call step
   pub exact : exact_of (before r k) call ≡ Some v
-  pub answer : step.told ≡ Number (answer_of (record { bits = x; flags = flags }))
+  pub answer : step.told ≡ Ok (Number (answer_of (record { bits = x; flags = flags })))
 
 -- An answer is its exact value where binary32 has that; otherwise no binary32 value, infinities included, lies strictly between the two.
 abbrev pub Faithful : Run → Type 0

@@ -1,6 +1,5 @@
 // The replay of two lists of calls on two fresh meters, and the promise over whole runs.
 ghost use Rattle.std.specs.Prelude.{◌≡◌, min, length, take};
-ghost use Rattle.meter.specs.Meters.{model};
 ghost use Rattle.meter.specs.Model.{fresh};
 ghost use Rattle.replay.specs.Promise.{Promise};
 ghost use Rattle.replay.specs.Runs.{asks_of, Written};
@@ -14,32 +13,17 @@ use meter::call::Call;
 use meter::meter::Meter;
 use rounding::rule::Rule;
 
-// Performs as many calls as there is room for.
+// Performs as many calls as there is room for. Not a zip of both: after one, a proof knows nothing of what is written.
 fn perform_all<E: Engine, R: Rule>(meter: &mut Meter<E, R>, calls: &[Call], steps: &mut [Step])
-    ensures written { Written (R.meaning meter.old.rule) (E.logged meter.old.engine) (model meter.old) calls.now steps.old steps.new }
-    ensures engine { E.logged meter.new.engine ≡ asks_of (E.logged meter.old.engine) (model meter.old) (take (min (length calls.now) (length steps.old)) calls.now) }
+    ensures written { Written (R.meaning meter.old.rule) (E.logged meter.old.engine) meter.old.model calls.now steps.old steps.new }
+    ensures engine { E.logged meter.new.engine ≡ asks_of (E.logged meter.old.engine) meter.old.model (take (min (length calls.now) (length steps.old)) calls.now) }
 {
     let mut flags = StandingFlags::new();
-    let count = calls.len().min(steps.len());
-    for i in 0..count {
-        steps[i] = step(meter, &mut flags, calls[i]);
+    let mut left = calls.iter();
+    for slot in steps.iter_mut() {
+        let Some(call) = left.next() else { break };
+        *slot = step(meter, &mut flags, *call);
     }
-}
-
-// A new meter of the address, over the engine and under the rule, is given the calls; its engine comes back.
-fn run<E: Engine, R: Rule + Drop>(
-    address: Address,
-    engine: E,
-    rule: R,
-    calls: &[Call],
-    steps: &mut [Step],
-) -> E
-    ensures written { Written (R.meaning rule) (E.logged engine) (fresh address.number) calls.now steps.old steps.new }
-    ensures engine { E.logged result ≡ asks_of (E.logged engine) (fresh address.number) (take (min (length calls.now) (length steps.old)) calls.now) }
-{
-    let mut meter = Meter::new(address, engine, rule);
-    perform_all(&mut meter, calls, steps);
-    meter.into_engine()
 }
 
 // What a new meter is made of.
@@ -47,6 +31,21 @@ pub struct Fitting<E, R> {
     pub address: Address,
     pub engine: E,
     pub rule: R,
+}
+
+// A new meter of this fitting is given the calls; its engine comes back.
+fn run<E: Engine, R: Rule + Drop>(fitting: Fitting<E, R>, calls: &[Call], steps: &mut [Step]) -> E
+    ensures written { Written (R.meaning fitting.rule) (E.logged fitting.engine) (fresh fitting.address.number) calls.now steps.old steps.new }
+    ensures engine { E.logged result ≡ asks_of (E.logged fitting.engine) (fresh fitting.address.number) (take (min (length calls.now) (length steps.old)) calls.now) }
+{
+    let Fitting {
+        address,
+        engine,
+        rule,
+    } = fitting;
+    let mut meter = Meter::new(address, engine, rule);
+    perform_all(&mut meter, calls, steps);
+    meter.into_engine()
 }
 
 // Makes two meters, whatever their engines and rules, and performs on each its list of calls, refused ones included, by public calls
@@ -63,17 +62,7 @@ pub fn replay<E: Engine, R: Rule + Drop, F: Engine, S: Rule + Drop>(
     ensures first_engine { E.Engine.logged result.0 ≡ asks_of (E.Engine.logged first.engine) (fresh first.address.number) (take (min (length first_calls.now) (length first_steps.old)) first_calls.now) }
     ensures second_engine { F.Engine.logged result.1 ≡ asks_of (F.Engine.logged second.engine) (fresh second.address.number) (take (min (length second_calls.now) (length second_steps.old)) second_calls.now) }
 {
-    let Fitting {
-        address,
-        engine,
-        rule,
-    } = first;
-    let first_engine = run(address, engine, rule, first_calls, first_steps);
-    let Fitting {
-        address,
-        engine,
-        rule,
-    } = second;
-    let second_engine = run(address, engine, rule, second_calls, second_steps);
+    let first_engine = run(first, first_calls, first_steps);
+    let second_engine = run(second, second_calls, second_steps);
     (first_engine, second_engine)
 }

@@ -1,5 +1,8 @@
 // What a replay writes down of each call.
+ghost use Rattle.std.specs.Prelude.{◌≡◌, None};
+
 use engines::Log;
+use meter::fault::MeterFault;
 use rounding::encoding::Encoding;
 use rounding::round::Answer;
 
@@ -14,7 +17,7 @@ pub struct SeenPoll {
     pub attempt: u8,
 }
 
-// A call's answer.
+// What an accepted call answers.
 #[derive(Clone, Copy)]
 pub enum Told {
     // A poll was begun or repeated, and is pending.
@@ -25,17 +28,29 @@ pub enum Told {
     // A reply was taken away, and so many are left.
     Left(usize),
     Number(Answer),
-    // Refused by number.
-    Refused(u8),
-    // Refused by number, and the poll handed back.
-    HandedBack(u8, SeenPoll),
 }
 
-// A call's answer, the engine's meaning after it, and the replies that stand then, oldest first, with blanks behind them.
+// Why a call is refused, and the poll that was handed back where one was given.
+#[derive(Clone, Copy)]
+pub struct Refusal {
+    pub fault: MeterFault,
+    pub poll: Option<SeenPoll>,
+}
+
+impl From<MeterFault> for Refusal {
+    ghost from_gives = { λ fault refusal. refusal ≡ record { fault = fault; poll = None } };
+
+    fn from(fault: MeterFault) -> Refusal {
+        Refusal { fault, poll: None }
+    }
+}
+
+// A call's answer, the engine's meaning after it, and the replies that stand then, oldest first, with blanks behind them: a plain value of
+// fixed size, since a replay has no heap.
 #[derive(Clone, Copy)]
 pub struct Step {
-    pub told: Told,
+    pub told: Result<Told, Refusal>,
     pub log: Log,
     pub count: usize,
-    pub standing: [Encoding; 288],
+    pub standing: [Encoding; ROOM],
 }

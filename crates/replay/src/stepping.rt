@@ -1,31 +1,27 @@
 // A call with what is written down of it.
 ghost use Rattle.std.specs.Prelude.{◌≡◌, ◌-◌, ◌++◌, length, replicate};
-ghost use Rattle.meter.specs.Meters.{model};
 ghost use Rattle.meter.specs.Model.{after};
 ghost use Rattle.replay.specs.Calls.{asked};
 ghost use Rattle.replay.specs.Runs.{Right};
 
 use crate::perform::perform;
-use crate::step::Step;
+use crate::step::{ROOM, Step};
 use arithmetic::standing::StandingFlags;
 use engines::Engine;
 use meter::call::Call;
 use meter::meter::Meter;
 use rounding::encoding::Encoding;
 use rounding::rule::Rule;
+use std::array;
 
 // The standing replies, oldest first, with zeros behind them.
-pub fn standing_of<E: Engine, R: Rule>(meter: &Meter<E, R>) -> [Encoding; 288]
-    ensures { result ≡ (model meter.now).replies ++ replicate (288 - length (model meter.now).replies) (record { bits = 0 }) }
+pub fn standing_of<E: Engine, R: Rule>(meter: &Meter<E, R>) -> [Encoding; ROOM]
+    ensures { result ≡ meter.now.model.replies ++ replicate (288 - length meter.now.model.replies) (record { bits = 0 }) }
 {
+    // None is left out.
+    prove!(meter.standing() <= ROOM);
     let blank = Encoding::from_bits(0);
-    let mut list = [blank; 288];
-    for i in 0..meter.standing() {
-        if let Some(reply) = meter.reply_at(i) {
-            list[i] = reply;
-        }
-    }
-    list
+    array::from_fn(|i| meter.reply_at(i).unwrap_or(blank))
 }
 
 // Performs a call and tells of it.
@@ -34,9 +30,9 @@ pub fn step<E: Engine, R: Rule>(
     flags: &mut StandingFlags,
     call: Call,
 ) -> Step
-    ensures right { Right (R.meaning meter.old.rule) (E.logged meter.old.engine) (model meter.old) call result }
-    ensures after { model meter.new ≡ after (model meter.old) call }
-    ensures engine { E.logged meter.new.engine ≡ asked (E.logged meter.old.engine) (model meter.old) call }
+    ensures right { Right (R.meaning meter.old.rule) (E.logged meter.old.engine) meter.old.model call result }
+    ensures after { meter.new.model ≡ after meter.old.model call }
+    ensures engine { E.logged meter.new.engine ≡ asked (E.logged meter.old.engine) meter.old.model call }
     ensures rule { meter.new.rule ≡ meter.old.rule }
 {
     let told = perform(meter, flags, call);

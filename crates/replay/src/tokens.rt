@@ -1,10 +1,9 @@
 // Tokens for named polls: made by a meter of their own, since a poll may come from any meter, and ended where it changes nothing.
-ghost use Rattle.std.specs.Prelude.{◌≡◌, ◌+◌, true, false, None};
+ghost use Rattle.std.specs.Prelude.{◌≡◌, ◌+◌, Some, None};
 ghost use Rattle.meter.specs.Attempts.{attempt_number};
-ghost use Rattle.meter.specs.Meters.{model};
-ghost use Rattle.meter.specs.Model.{refuses_repeat};
+ghost use Rattle.meter.specs.Model.{fresh, refuses_repeat};
 
-use crate::step::SeenPoll;
+use crate::step::{Refusal, SeenPoll};
 use engines::digits::Digits;
 use meter::address::Address;
 use meter::call::{Attempt, NamedPoll};
@@ -14,45 +13,28 @@ use rounding::rules::Even;
 
 // A new meter whose answers nobody reads.
 fn bystander(address: Address) -> Meter<Digits, Even>
-    ensures { (result.address.number ≡ address.number) × (result.pending ≡ false) }
+    ensures { result.model ≡ fresh address.number }
 {
     Meter::new(address, Digits::new(), Even)
 }
 
 // One more attempt, where one is left.
 fn repeated(source: &mut Meter<Digits, Even>, poll: PendingPoll) -> PendingPoll
-    requires { refuses_repeat (model source.old) poll.address poll.attempt ≡ None }
+    requires { refuses_repeat source.old.model poll.address poll.attempt ≡ None }
     ensures poll { (result.address ≡ poll.address) × (result.attempt ≡ poll.attempt + 1) }
-    ensures after { model source.new ≡ model source.old }
+    ensures after { source.new.model ≡ source.old.model }
 {
-    match source.repeat(poll) {
-        Ok(next) => next,
-        Err(
-            Refused {
-                poll: back,
-                fault: _,
-            },
-        ) => back,
-    }
+    source
+        .repeat(poll)
+        .unwrap_or_else(|Refused { poll, fault: _ }| poll)
 }
 
-fn begun(source: &mut Meter<Digits, Even>) -> PendingPoll
-    requires { source.old.pending ≡ false }
-    ensures poll { (result.address ≡ source.old.address.number) × (result.attempt ≡ 1) }
-    ensures pending { (source.new.pending ≡ true) × (source.new.address.number ≡ source.old.address.number) }
-{
-    match source.poll() {
-        Ok(poll) => poll,
-        Err(_) => unreachable(),
-    }
-}
-
-// The named poll.
+// The named poll. No From: both types are the meter's.
 pub fn token_of(named: NamedPoll) -> PendingPoll
     ensures { (result.address ≡ named.address.number) × (result.attempt ≡ attempt_number named.attempt) }
 {
     let mut source = bystander(named.address);
-    let first = begun(&mut source);
+    let first = source.poll().unwrap();
     match named.attempt {
         Attempt::First => first,
         Attempt::Second => repeated(&mut source, first),
@@ -63,15 +45,29 @@ pub fn token_of(named: NamedPoll) -> PendingPoll
     }
 }
 
-// What a token shows; it is ended by a lapse at a bystander, so that the meter that waits for it still waits.
-pub fn seen_and_ended(address: Address, poll: PendingPoll) -> SeenPoll
-    ensures { (result.address ≡ poll.address) × (result.attempt ≡ poll.attempt) }
-{
-    let seen = SeenPoll {
-        address: poll.address(),
-        attempt: poll.attempt(),
-    };
-    let mut other = bystander(address);
-    let _ = other.lapse(poll);
-    seen
+// What a token shows. It is ended by a lapse at a bystander, of whatever address, so that the meter that waits for it still waits.
+impl From<PendingPoll> for SeenPoll {
+    ghost from_gives = { λ poll seen. seen ≡ record { address = poll.address; attempt = poll.attempt } };
+
+    fn from(poll: PendingPoll) -> SeenPoll {
+        let seen = SeenPoll {
+            address: poll.address(),
+            attempt: poll.attempt(),
+        };
+        let mut other = bystander(Address::try_from(1u16).unwrap());
+        let _ = other.lapse(poll);
+        seen
+    }
+}
+
+impl From<Refused> for Refusal {
+    ghost from_gives = { λ back refusal. refusal ≡ record { fault = back.fault; poll = Some (record { address = back.poll.address; attempt = back.poll.attempt }) } };
+
+    fn from(back: Refused) -> Refusal {
+        let Refused { poll, fault } = back;
+        Refusal {
+            fault,
+            poll: Some(SeenPoll::from(poll)),
+        }
+    }
 }

@@ -37,7 +37,7 @@ fn square(operand: u32) -> Call {
 }
 
 // Replies 1, 2 and 1.
-pub fn first_list(own: Address, other: Address) -> [Call; 24] {
+pub fn first_list(own: Address, other: Address) -> [Call; LENGTH] {
     [
         Call::Mean,
         quotient(ONE, THREE),
@@ -67,7 +67,7 @@ pub fn first_list(own: Address, other: Address) -> [Call; 24] {
 }
 
 // Replies 2, 1 and 1.
-pub fn second_list(own: Address, other: Address) -> [Call; 24] {
+pub fn second_list(own: Address, other: Address) -> [Call; LENGTH] {
     [
         Call::Retract,
         Call::Poll,

@@ -13,43 +13,49 @@ use engines::{Engine, Log};
 use meter::address::Address;
 use meter::call::Call;
 use replay::replaying::{Fitting, replay};
-use replay::step::{Step, Told};
+use replay::step::{ROOM, Step, Told};
 use rounding::encoding::Encoding;
 use rounding::rules::Even;
 use std::io;
 
 // Room for a call, before anything is told.
 fn blank() -> Step {
-    let standing = [Encoding::from_bits(0); 288];
     Step {
-        told: Told::Lapsed,
+        told: Ok(Told::Lapsed),
         log: Log::new(),
         count: 0,
-        standing,
+        standing: [Encoding::from_bits(0); ROOM],
     }
 }
 
-fn print_steps(rt: &HostRuntime, calls: &[Call], steps: &[Step]) -> io::Result<()> {
-    for (call, step) in calls.iter().zip(steps.iter()) {
+// What a meter was given and told, and what its engine has done.
+fn print_meter(
+    rt: &HostRuntime,
+    address: Address,
+    engine: &str,
+    calls: &[Call],
+    steps: &[Step],
+    log: Log,
+) -> io::Result<()> {
+    println!(rt; "meter {}, {engine}, even:", address.number())?;
+    for (call, step) in calls.iter().zip(steps) {
         let call = CallText(*call);
         let told = ToldText(step.told);
-        let count = step.count;
-        let estimates = step.log.estimates;
-        println!(rt; "{call}: {told}; standing {count}, estimates {estimates}")?;
+        println!(rt;
+            "{call}: {told}; standing {}, estimates {}",
+            step.count, step.log.estimates
+        )?;
     }
-    Ok(())
-}
-
-// What an engine that came back has done.
-fn print_log(rt: &HostRuntime, log: Log) -> io::Result<()> {
-    let estimates = log.estimates;
-    let dividend = log.dividend;
-    let divisor = log.divisor;
-    println!(rt; "estimates {estimates}, the last one of {dividend} / {divisor}")
+    println!(rt;
+        "estimates {}, the last one of {} / {}",
+        log.estimates, log.dividend, log.divisor
+    )
 }
 
 // Both meters round to even; the engines differ, and so does the order of the replies.
-fn run(rt: &HostRuntime, here: Address, there: Address) -> io::Result<()> {
+fn main(rt: HostRuntime) -> io::Result<()> {
+    let here = Address::try_from(17u16).unwrap();
+    let there = Address::try_from(34u16).unwrap();
     let first_calls = first_list(here, there);
     let second_calls = second_list(there, here);
     let mut first_steps = [blank(); LENGTH];
@@ -72,22 +78,20 @@ fn run(rt: &HostRuntime, here: Address, there: Address) -> io::Result<()> {
         &second_calls,
         &mut second_steps,
     );
-    let number = here.number();
-    println!(rt; "meter {number}, digits, even:")?;
-    print_steps(rt, &first_calls, &first_steps)?;
-    print_log(rt, digits.log())?;
-    let number = there.number();
-    println!(rt; "meter {number}, cubic, even:")?;
-    print_steps(rt, &second_calls, &second_steps)?;
-    print_log(rt, cubic.log())
-}
-
-fn main(rt: HostRuntime) -> io::Result<()> {
-    let Ok(here) = Address::new(17) else {
-        unreachable()
-    };
-    let Ok(there) = Address::new(34) else {
-        unreachable()
-    };
-    run(&rt, here, there)
+    print_meter(
+        &rt,
+        here,
+        "digits",
+        &first_calls,
+        &first_steps,
+        digits.log(),
+    )?;
+    print_meter(
+        &rt,
+        there,
+        "cubic",
+        &second_calls,
+        &second_steps,
+        cubic.log(),
+    )
 }

@@ -1,26 +1,28 @@
 // Calls and what they told, as text.
 use meter::call::{Call, NamedPoll};
-use replay::step::{SeenPoll, Told};
+use replay::step::{Refusal, SeenPoll, Told};
 use std::fmt;
 
 // A poll: its address and attempt.
 #[derive(Clone, Copy)]
 struct PollText(u8, u8);
 
-impl fmt::Display for PollText {
-    fn fmt<W: fmt::Write>(&self, f: &mut fmt::Formatter<W>) -> fmt::Result {
-        let address = self.0;
-        let attempt = self.1;
-        write!(f, "{address}/{attempt}")
+impl From<NamedPoll> for PollText {
+    fn from(named: NamedPoll) -> PollText {
+        PollText(named.address.number(), named.attempt.number())
     }
 }
 
-fn named_text(named: NamedPoll) -> PollText {
-    PollText(named.address.number(), named.attempt.number())
+impl From<SeenPoll> for PollText {
+    fn from(seen: SeenPoll) -> PollText {
+        PollText(seen.address, seen.attempt)
+    }
 }
 
-fn seen_text(seen: SeenPoll) -> PollText {
-    PollText(seen.address, seen.attempt)
+impl fmt::Display for PollText {
+    fn fmt<W: fmt::Write>(&self, f: &mut fmt::Formatter<W>) -> fmt::Result {
+        write!(f, "{}/{}", self.0, self.1)
+    }
 }
 
 #[derive(Clone, Copy)]
@@ -29,59 +31,65 @@ pub struct CallText(pub Call);
 impl fmt::Display for CallText {
     fn fmt<W: fmt::Write>(&self, f: &mut fmt::Formatter<W>) -> fmt::Result {
         match self.0 {
-            Call::Poll => write!(f, "poll"),
-            Call::Repeat(named) => {
-                let poll = named_text(named);
-                write!(f, "repeat {poll}")
-            }
+            Call::Poll => f.write_str("poll"),
+            Call::Repeat(named) => write!(f, "repeat {}", PollText::from(named)),
             Call::Reply(named, encoding) => {
-                let poll = named_text(named);
-                let bits = encoding.to_bits();
-                write!(f, "reply {poll} {bits:08X}")
+                write!(
+                    f,
+                    "reply {} {:08X}",
+                    PollText::from(named),
+                    encoding.to_bits()
+                )
             }
-            Call::Lapse(named) => {
-                let poll = named_text(named);
-                write!(f, "lapse {poll}")
-            }
-            Call::Retire => write!(f, "retire"),
-            Call::Retract => write!(f, "retract"),
+            Call::Lapse(named) => write!(f, "lapse {}", PollText::from(named)),
+            Call::Retire => f.write_str("retire"),
+            Call::Retract => f.write_str("retract"),
             Call::Quotient { dividend, divisor } => {
-                let above = dividend.to_bits();
-                let below = divisor.to_bits();
-                write!(f, "quotient {above:08X} {below:08X}")
+                write!(
+                    f,
+                    "quotient {:08X} {:08X}",
+                    dividend.to_bits(),
+                    divisor.to_bits()
+                )
             }
-            Call::Square { operand } => {
-                let bits = operand.to_bits();
-                write!(f, "square {bits:08X}")
-            }
-            Call::Mean => write!(f, "mean"),
-            Call::MeanSquare => write!(f, "mean square"),
+            Call::Square { operand } => write!(f, "square {:08X}", operand.to_bits()),
+            Call::Mean => f.write_str("mean"),
+            Call::MeanSquare => f.write_str("mean square"),
         }
     }
 }
 
 #[derive(Clone, Copy)]
-pub struct ToldText(pub Told);
+pub struct ToldText(pub Result<Told, Refusal>);
 
 impl fmt::Display for ToldText {
     fn fmt<W: fmt::Write>(&self, f: &mut fmt::Formatter<W>) -> fmt::Result {
         match self.0 {
-            Told::Pending(seen) => {
-                let poll = seen_text(seen);
-                write!(f, "pending {poll}")
+            Ok(Told::Pending(seen)) => write!(f, "pending {}", PollText::from(seen)),
+            Ok(Told::Taken(count)) => write!(f, "taken {count}"),
+            Ok(Told::Lapsed) => f.write_str("lapsed"),
+            Ok(Told::Left(count)) => write!(f, "left {count}"),
+            Ok(Told::Number(answer)) => {
+                write!(
+                    f,
+                    "{:08X} {}",
+                    answer.encoding.to_bits(),
+                    answer.flags.number()
+                )
             }
-            Told::Taken(count) => write!(f, "taken {count}"),
-            Told::Lapsed => write!(f, "lapsed"),
-            Told::Left(count) => write!(f, "left {count}"),
-            Told::Number(answer) => {
-                let bits = answer.encoding.to_bits();
-                let flags = answer.flags.number();
-                write!(f, "{bits:08X} {flags}")
-            }
-            Told::Refused(number) => write!(f, "refused, {number}"),
-            Told::HandedBack(number, seen) => {
-                let poll = seen_text(seen);
-                write!(f, "refused, {number}, {poll} handed back")
+            Err(Refusal { fault, poll: None }) => write!(f, "refused, {}", fault.number()),
+            Err(
+                Refusal {
+                    fault,
+                    poll: Some(seen),
+                },
+            ) => {
+                write!(
+                    f,
+                    "refused, {}, {} handed back",
+                    fault.number(),
+                    PollText::from(seen)
+                )
             }
         }
     }

@@ -21,9 +21,12 @@ returns c =
       greatest_address = refl;
       address_below = refl;
       address_above = refl;
+      address_number = refl;
       last_reply = refl;
       reply_too_many = refl;
+      full_number = refl;
       first_repeat = refl;
       second_repeat = refl;
       third_repeat = refl;
+      last_number = refl;
     }

@@ -1,6 +1,0 @@
-use Rattle.std.proofs.Common.{◌≡◌, ◌-◌, ◌++◌, take, replicate}
-use Rattle.meter.specs.Meters.{model}
-use Rattle.replay.proofs.stepping.standing_of.Given as goal
-
-abbrev pub invariant-loop-i : goal.invariant-loop-i
-invariant-loop-i g l = l.list ≡ take l.i (model l.meter).replies ++ replicate (288 - l.i) (record { bits = 0 })
