@@ -4,10 +4,11 @@
 ghost use Rattle.std.specs.Prelude.{◌≡◌, ◌++◌, length, drop};
 ghost use Rattle.answers.specs.Answers.{text};
 
-mod laying;
 mod shapes;
+mod texts;
 
-use shapes::{put_count, put_number, put_peak};
+use shapes::{counted, numbered, peaked};
+use texts::Text;
 
 // The longest text has 21 bytes, so every answer fits the buffer.
 #[derive(Clone, Copy)]
@@ -22,25 +23,37 @@ pub enum Answer {
     Left(u16),
     // The greatest standing reply and its place: (peak 1 3F800000)
     Peak { place: u16, encoding: u32 },
-    // The flags on record: (flags 16)
+    // The flags on record: (flags 16). This and the next by number, as all else here is: what is written, whatever it is taken from.
     Flags(u8),
-    // The number of the refusal: (no 3)
+    // The refusal: (no 3)
     Refused(u8),
 }
 
-// Lays the answer's text at the front of `out`, and says how long it is. The bytes behind it stay.
+impl Answer {
+    fn written(self) -> Text
+        ensures { result.bytes.items ≡ text self }
+    {
+        match self {
+            Answer::Ready(address) => counted(b"(ok ", address),
+            Answer::Number { encoding, flags } => numbered(encoding, flags),
+            Answer::Taken(standing) => counted(b"(taken ", standing),
+            Answer::Lapsed(standing) => counted(b"(lapsed ", standing),
+            Answer::Left(standing) => counted(b"(left ", standing),
+            Answer::Peak { place, encoding } => peaked(place, encoding),
+            Answer::Flags(flags) => counted(b"(flags ", flags.into()),
+            Answer::Refused(number) => counted(b"(no ", number.into()),
+        }
+    }
+}
+
+// Lays the answer's text at the front of `out`, and says how long it is. The bytes behind it stay: that the buffer is lent, with 32 bytes, is a
+// rule of the project.
 pub fn write(answer: Answer, out: &mut [u8; 32]) -> usize
     ensures end { result ≡ length (text answer) }
     ensures after { out.new ≡ text answer ++ drop (length (text answer)) out.old }
 {
-    match answer {
-        Answer::Ready(address) => put_count(out, b"(ok ", address),
-        Answer::Number { encoding, flags } => put_number(out, encoding, flags),
-        Answer::Taken(standing) => put_count(out, b"(taken ", standing),
-        Answer::Lapsed(standing) => put_count(out, b"(lapsed ", standing),
-        Answer::Left(standing) => put_count(out, b"(left ", standing),
-        Answer::Peak { place, encoding } => put_peak(out, place, encoding),
-        Answer::Flags(flags) => put_count(out, b"(flags ", flags as u16),
-        Answer::Refused(number) => put_count(out, b"(no ", number as u16),
-    }
+    let text = answer.written();
+    let end = text.bytes.len();
+    out[..end].copy_from_slice(text.bytes.as_slice());
+    end
 }

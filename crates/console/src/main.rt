@@ -14,8 +14,8 @@ use std::io::{Read, Write};
 fn respond(rt: &HostRuntime, session: &mut Session, line: &Line) -> io::Result<()> {
     let mut out = [0; 32];
     let count = answer(session, line, &mut out);
-    let text = with_line_feed(&out, count);
-    rt.stdout().write_all(&text[0..count + 1])
+    rt.stdout()
+        .write_all(with_line_feed(&out[..count]).as_slice())
 }
 
 // Takes what was read, and answers each line as it ends.
@@ -35,15 +35,16 @@ fn run(rt: &HostRuntime) -> io::Result<()> {
     let mut session = Session::new();
     let mut line = Line::new();
     let mut chunk = [0; 4096];
+    // A loop that reads until its input ends counts, since it has to be seen to end.
     for _ in 0..u64::MAX {
         let count = rt.stdin().read(&mut chunk)?;
         if count == 0 {
             break;
         }
-        feed(rt, &mut session, &mut line, &chunk[0..count])?;
+        feed(rt, &mut session, &mut line, &chunk[..count])?;
     }
     // The last line may lack its line feed.
-    if line.bytes().len() > 0 {
+    if !line.bytes().is_empty() {
         respond(rt, &mut session, &line)?;
     }
     Ok(())

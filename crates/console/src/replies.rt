@@ -1,10 +1,11 @@
 // The reply to a line: the text of its answer, and a line feed.
-ghost use Rattle.std.specs.Prelude.{◌≡◌, ℕ, ◌+◌, ◌≤◌, List, [], ◌∷◌, ◌++◌, take};
+ghost use Rattle.std.specs.Prelude.{◌≡◌, ℕ, ◌≤◌, List, [], ◌∷◌, ◌++◌, length};
 ghost use Rattle.session.specs.Answers.{Answered};
 ghost use Rattle.session.specs.Sessions.{state, engine_of};
 ghost use Rattle.console.specs.Lines.{Keeps};
 
 use crate::line::Line;
+use arrayvec::ArrayVec;
 use session::session::Session;
 
 // The answer to the whole line, of which the front is kept.
@@ -16,12 +17,12 @@ pub fn answer(session: &mut Session, line: &Line, out: &mut [u8; 32]) -> usize
 }
 
 // The text of an answer, with a line feed behind it.
-pub fn with_line_feed(text: &[u8; 32], count: usize) -> [u8; 33]
-    requires { count ≤ 32 }
-    ensures { take (count + 1) result ≡ take count text.now ++ 10 ∷ [] }
+pub fn with_line_feed(text: &[u8]) -> ArrayVec<u8, 33>
+    requires { length text.now ≤ 32 }
+    ensures { result.items ≡ text.now ++ 10 ∷ [] }
 {
-    let mut line = [0; 33];
-    line[0..count].copy_from_slice(&text[0..count]);
-    line[count] = b'\n';
+    let mut line = ArrayVec::new();
+    line.try_extend_from_slice(text).unwrap();
+    line.push(b'\n');
     line
 }

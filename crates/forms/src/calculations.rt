@@ -4,7 +4,7 @@ ghost use Rattle.forms.specs.Calculations.{calculation, divided, encoded, trial,
 ghost use Rattle.lex.specs.Reads.{Reads};
 
 use crate::Calculation;
-use lex::{hexadecimal, inside, is, split};
+use lex::{hexadecimal, inside, split};
 
 // A head and an encoding, as in (sqr H).
 pub fn read_encoded(line: &[u8], head: &[u8]) -> Option<u32>
@@ -24,16 +24,17 @@ fn read_divided(line: &[u8]) -> Option<(u32, u32)>
 pub fn read_calculation(line: &[u8]) -> Option<Calculation>
     ensures { Reads calculation Sized line.now result }
 {
-    if is(line, b"(mean)") {
-        Some(Calculation::Mean)
-    } else if is(line, b"(meansq)") {
-        Some(Calculation::MeanSquare)
-    } else if let Some(operand) = read_encoded(line, b"(sqr ") {
-        Some(Calculation::Square { operand })
-    } else if let Some((dividend, divisor)) = read_divided(line) {
-        Some(Calculation::Divide { dividend, divisor })
-    } else {
-        None
+    match line {
+        b"(mean)" => Some(Calculation::Mean),
+        b"(meansq)" => Some(Calculation::MeanSquare),
+        _ => read_encoded(line, b"(sqr ")
+            .map(|operand| Calculation::Square { operand })
+            .or_else(|| {
+                read_divided(line).map(|(dividend, divisor)| Calculation::Divide {
+                    dividend,
+                    divisor,
+                })
+            }),
     }
 }
 

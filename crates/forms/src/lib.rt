@@ -25,7 +25,7 @@ pub struct Setup {
     pub rule: AnyRule,
 }
 
-// (div H H), (sqr H), (mean) and (meansq), the operands as encodings.
+// (div H H), (sqr H), (mean) and (meansq), the operands as encodings. A case for each form, as a user of the console knows them.
 #[derive(Clone, Copy)]
 pub enum Calculation {
     Divide { dividend: u32, divisor: u32 },
@@ -75,19 +75,12 @@ fn read_short(line: &[u8]) -> Option<Form>
     requires { length line.now ≤ 80 }
     ensures { Reads text Good line.now result }
 {
-    if let Some(setup) = read_setup(line) {
-        Some(Form::Meter(setup))
-    } else if let Some(calculation) = read_calculation(line) {
-        Some(Form::Compute(calculation))
-    } else if let Some(command) = read_command(line) {
-        Some(Form::Command(command))
-    } else if let Some(poll) = read_poll(line) {
-        Some(Form::Poll(poll))
-    } else if let Some(calculation) = read_trial(line) {
-        Some(Form::Try(calculation))
-    } else {
-        None
-    }
+    read_setup(line)
+        .map(Form::Meter)
+        .or_else(|| read_calculation(line).map(Form::Compute))
+        .or_else(|| read_command(line).map(Form::Command))
+        .or_else(|| read_poll(line).map(Form::Poll))
+        .or_else(|| read_trial(line).map(Form::Try))
 }
 
 // The form of a line, which comes without its line feed, or `None` where it has none.

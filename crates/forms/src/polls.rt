@@ -5,17 +5,14 @@ ghost use Rattle.lex.specs.Reads.{Reads};
 
 use crate::calculations::read_encoded;
 use crate::{Ending, Poll};
-use lex::{inside, is};
+use lex::inside;
 
 fn read_ending(text: &[u8]) -> Option<Ending>
     ensures { Reads ending Ended text.now result }
 {
-    if is(text, b"(lapse)") {
-        Some(Ending::Lapse)
-    } else if let Some(encoding) = read_encoded(text, b"(reply ") {
-        Some(Ending::Reply(encoding))
-    } else {
-        None
+    match text {
+        b"(lapse)" => Some(Ending::Lapse),
+        _ => read_encoded(text, b"(reply ").map(Ending::Reply),
     }
 }
 

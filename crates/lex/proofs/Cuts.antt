@@ -1,19 +1,31 @@
 -- Lemmas on the parts of a line: groups, and the first space.
-use Rattle.std.proofs.Common.{◌≡◌, ℕ, zero, suc, ◌+◌, ◌<◌, Bool, true, not, ◌&&◌, eqb, List, [], ◌∷◌, ◌++◌, length, get_or, take, drop, Some, None, Option, sym, refl, ap, ◌∙◌, suc-le-suc, le_of_suc-le-suc, arith, length-append, take-append-drop, length-take, Bor, MatchOption}
+use Rattle.std.proofs.Common.{◌≡◌, ℕ, zero, suc, ◌+◌, ◌<◌, ◌≤◌, Bool, true, false, not, ◌==◌, ◌&&◌, eqb, List, [], ◌∷◌, ◌++◌, length, get_or, take, drop, Some, None, Option, sym, refl, ap, ◌∙◌, suc-le-suc, le_of_suc-le-suc, arith, length-append, take-append-drop, length-take, Bor, MatchOption}
 use Rattle.std.proofs.lemmas.List.{append_cancel_left, append_cancel_right, get_or-take, get_or_at, drop_more}
-use Rattle.std.proofs.lemmas.Bool.{and_parts, eqb-false, not-true}
+use Rattle.std.proofs.lemmas.Bool.{and_parts, eqb-false, eqb-true, not-true}
+use Rattle.std.proofs.lemmas.Bool.Decides.{nat_tests}
+use Rattle.std.proofs.lemmas.List.Quantifiers.{position-Some}
+use Rattle.std.proofs.lemmas.List.Sums.{fails_before_first}
+use Rattle.std.specs.List.{position, position_or_len}
 use Rattle.lex.specs.Parts.{group, pair, Solid, Apart}
 use Rattle.lex.specs.Reads.{Reads, held}
 
--- what stands before index i is without a space
-pub solid_take : (s : List ℕ) (i : ℕ) → ((k : ℕ) → k < i → get_or s k 0 ≡ 32 → ⊥) → Solid (take i s)
-solid_take s i none k l e =
-    let b : k < i = omega (arith, simp length-take at l) in
-    none k b (sym (get_or-take i s k 0 b) ∙ e)
+-- the text is cut at its first space
+pub cut_found : (s : List ℕ) (i : ℕ) → Some i ≡ position (λ byte. byte == 32) s → Solid (take i s) × (s ≡ pair (take i s, drop (i + 1) s))
+cut_found s i e = (solid, sym (take-append-drop i s) ∙ ap (λ (t : List ℕ). take i s ++ t) (drop_more s i 0 first.0 ∙ ap (λ (b : ℕ). b ∷ drop (i + 1) s) (eqb-true _ _ first.1)))
+  where
+    first : (i < length s) × ((get_or s i 0 == 32) ≡ true) × ((k : ℕ) → k < i → (get_or s k 0 == 32) ≡ false)
+    first = position-Some (λ byte. byte == 32) s i 0 (sym e)
 
-pub cut_at : (s : List ℕ) (i : ℕ) → i < length s → get_or s i 0 ≡ 32 → s ≡ take i s ++ (32 ∷ drop (i + 1) s)
-cut_at s i l e =
-    sym (take-append-drop i s) ∙ ap (λ (t : List ℕ). take i s ++ t) (drop_more s i 0 l ∙ ap (λ (b : ℕ). b ∷ drop (i + 1) s) e)
+    solid : Solid (take i s)
+    solid k l h =
+        let b : k < i = omega (arith, simp length-take at l) in
+        eqb-false _ _ (first.2 k b) (sym (get_or-take i s k 0 b) ∙ h)
+
+pub none_found : (s : List ℕ) → None ≡ position (λ byte. byte == 32) s → Solid s
+none_found s e k l = eqb-false _ _ (fails_before_first (λ byte. byte == 32) s k 0 (omega (arith, far)))
+  where
+    far : length s ≤ position_or_len (λ byte. byte == 32) s
+    far = grind (arith, nat_tests)
 
 pub no_pair : (s : List ℕ) → Solid s → (p : List ℕ × List ℕ) → Apart p → s ≡ pair p → ⊥
 no_pair s none p apart e =

@@ -3,27 +3,21 @@ ghost use Rattle.std.specs.Prelude.{◌≡◌, ◌^◌, ◌<◌, ◌≤◌, leng
 ghost use Rattle.lex.specs.Numbers.{Unpadded, digit, digits, hex};
 ghost use Rattle.lex.specs.Reads.{Reads};
 
-// The digit below `base` that `byte` writes.
+// The digit below `base` that `byte` writes; a small letter writes none.
 fn digit_of(byte: u8, base: u32) -> Option<u32>
-    requires { base ≤ 16 }
+    requires { (2 ≤ base) × (base ≤ 16) }
     ensures { MatchOption result ((d : _) → d < base → byte ≢ digit d) (λ d. (d < base) × (byte ≡ digit d)) }
 {
-    let value = match byte {
-        b'0'..=b'9' => byte - b'0',
-        b'A'..=b'F' => byte - b'A' + 10,
-        _ => return None,
-    };
-    if u32::from(value) < base {
-        Some(u32::from(value))
-    } else {
-        None
+    if byte.is_ascii_lowercase() {
+        return None;
     }
+    char::from(byte).to_digit(base)
 }
 
 // The number that `word` writes in `base`, where each of its bytes is a digit.
 fn number(word: &[u8], base: u32) -> Option<u32>
     requires few { length word.now ≤ 8 }
-    requires base { (0 < base) × (base ≤ 16) }
+    requires base { (2 ≤ base) × (base ≤ 16) }
     ensures { Reads (digits base (length word.now)) (λ n. n < base ^ length word.now) word.now result }
 {
     let mut value = 0;

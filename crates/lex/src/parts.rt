@@ -1,9 +1,9 @@
 // The parts of a line: what stands in a group, and what stands before and after its first space.
-ghost use Rattle.std.specs.Prelude.{◌≡◌, Decides};
+ghost use Rattle.std.specs.Prelude.{◌≡◌, ◌==◌, Decides, position};
 ghost use Rattle.lex.specs.Reads.{Reads, held, held_both};
 ghost use Rattle.lex.specs.Parts.{group, pair, Apart};
 
-// Whether `text` is just `name`.
+// Whether `text` is just `name`: the library's equality, under the promise of a reader.
 pub fn is(text: &[u8], name: &[u8]) -> bool
     ensures { Decides result (text.now ≡ name.now) }
 {
@@ -17,14 +17,17 @@ pub fn inside<'a>(text: &'a [u8], head: &[u8]) -> Option<&'a [u8]>
     text.strip_prefix(head)?.strip_suffix(b")")
 }
 
+// Where the first space of `text` stands.
+fn first_space(text: &[u8]) -> Option<usize>
+    ensures { result ≡ position (λ byte. byte == 32) text.now }
+{
+    text.iter().position(|byte| *byte == b' ')
+}
+
 // The two parts of `text` around its first space.
 pub fn split(text: &[u8]) -> Option<(&[u8], &[u8])>
     ensures { Reads pair Apart text.now (held_both result) }
 {
-    for (i, byte) in text.iter().enumerate() {
-        if *byte == b' ' {
-            return Some((&text[0..i], &text[i + 1..]));
-        }
-    }
-    None
+    let space = first_space(text)?;
+    Some((&text[..space], &text[space + 1..]))
 }

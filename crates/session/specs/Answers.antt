@@ -1,5 +1,5 @@
 -- What a session answers to a line, and what it holds afterwards.
-use Rattle.std.specs.Prelude.{◌≡◌, ℕ, ◌+◌, ◌-◌, true, false, not, ◌&&◌, List, ◌++◌, length, drop, Some, None, Ok, Err, Option, Result, bit_or, nat_le}
+use Rattle.std.specs.Prelude.{◌≡◌, ℕ, ◌+◌, ◌-◌, true, false, not, List, ◌++◌, length, drop, Some, None, Ok, Err, Option, Result, bit_or, nat_le, option_map}
 use Rattle.answers.specs.declared.Answer.{Answer}
 use Rattle.answers.specs.declared.Answer.TheVariants as says
 use Rattle.answers.specs.Answers.{text as answer_text}
@@ -16,7 +16,10 @@ use Rattle.forms.specs.declared.Form.TheVariants as form
 use Rattle.forms.specs.declared.Poll.{Poll}
 use Rattle.forms.specs.declared.Setup.{Setup}
 use Rattle.lex.specs.Reads.{Reads}
+use Rattle.meter.specs.Addresses.{refuses_address}
 use Rattle.meter.specs.Model.{Model, first, fresh, lapsed, refuses_empty, replied, retired, retracted}
+use Rattle.meter.specs.declared.fault.MeterFault.{MeterFault}
+use Rattle.meter.specs.declared.fault.MeterFault.TheVariants.{Window, NotFinite, LastAttempt}
 use Rattle.rounding.specs.Format.{binary32, is_finite}
 use Rattle.rounding.specs.Rounding.{Outcome}
 use Rattle.rounding.specs.declared.encoding.Encoding.{Encoding}
@@ -25,8 +28,9 @@ use Rattle.session.specs.Faults.{number}
 use Rattle.session.specs.Outcomes.{log_after, outcome, refuses_calculation}
 use Rattle.session.specs.State.{State}
 use Rattle.session.specs.declared.fault.ConsoleFault.{ConsoleFault}
-use Rattle.session.specs.declared.fault.ConsoleFault.TheVariants.{Text}
+use Rattle.session.specs.declared.fault.ConsoleFault.TheVariants as fault
 use Rattle.window.specs.Peak.{Peaks}
+use Rattle.window.specs.declared.fault.WindowFault.TheVariants.{Full}
 use Rattle.window.specs.declared.peak.Peak.{Peak as Found}
 
 abbrev pub encoding : ℕ → Encoding
@@ -36,32 +40,32 @@ encoding n = record { bits = n }
 abbrev pub count : Model → ℕ
 count m = length m.replies
 
--- REFUSALS, test by test: the number, or none
+-- REFUSALS, test by test: the fault, or none
 
-abbrev pub refuses_setup : State → Setup → Option ℕ
-refuses_setup s x = first s.ready 1 (first (not (nat_le 1 x.address && nat_le x.address 247)) 2 None)
+abbrev pub refuses_setup : State → Setup → Option ConsoleFault
+refuses_setup s x = first s.ready fault.Text (option_map fault.Meter (refuses_address x.address))
 
 -- A poll is pending from its beginning on, and at its own meter, so that only these are left: three repeats are one too many; then the
 -- ending's own tests.
-abbrev pub refuses_ending : Model → Ending → Option ℕ
-refuses_ending m (Reply bits) = first (not (is_finite binary32 bits)) 3 (first (nat_le 288 (count m)) 7 None)
+abbrev pub refuses_ending : Model → Ending → Option MeterFault
+refuses_ending m (Reply bits) = first (not (is_finite binary32 bits)) NotFinite (first (nat_le 288 (count m)) (Window Full) None)
 refuses_ending m Lapse = None
 
-abbrev pub refuses_polling : Model → Poll → Option ℕ
-refuses_polling m p = first (nat_le 3 p.again) 9 (refuses_ending m p.ending)
+abbrev pub refuses_polling : Model → Poll → Option MeterFault
+refuses_polling m p = first (nat_le 3 p.again) LastAttempt (refuses_ending m p.ending)
 
-abbrev pub refuses_command : Model → Command → Option ℕ
+abbrev pub refuses_command : Model → Command → Option MeterFault
 refuses_command m Peak = refuses_empty m
 refuses_command m Retire = refuses_empty m
 refuses_command m Retract = refuses_empty m
 refuses_command m Flags = None
 refuses_command m Clear = None
 
--- until the meter is set up
-abbrev pub ready_first : State → Option ℕ → Option ℕ
-ready_first s rest = first (not s.ready) 1 rest
+-- until the meter is set up, the fault is the text's, and then the meter's own
+abbrev pub ready_first : State → Option MeterFault → Option ConsoleFault
+ready_first s rest = first (not s.ready) fault.Text (option_map fault.Meter rest)
 
-abbrev pub refusal : State → Form → Option ℕ
+abbrev pub refusal : State → Form → Option ConsoleFault
 refusal s (form.Meter x) = refuses_setup s x
 refusal s (form.Compute c) = ready_first s (refuses_calculation s.meter c)
 refusal s (form.Command w) = ready_first s (refuses_command s.meter w)
@@ -128,13 +132,13 @@ after s (form.Try c) = tried s c
 
 abbrev pub Comes : State → Form → Result Answer ConsoleFault → State → Type 0
 Comes s f (Ok a) t = (refusal s f ≡ None) × Says s f a × (t ≡ after s f)
-Comes s f (Err e) t = (refusal s f ≡ Some (number e)) × (t ≡ s)
+Comes s f (Err e) t = (refusal s f ≡ Some e) × (t ≡ s)
 
 -- AND OF A LINE: what comes of its form, if it has one
 
 abbrev pub ComesOf : State → Option Form → Result Answer ConsoleFault → State → Type 0
 ComesOf s (Some f) r t = Comes s f r t
-ComesOf s None r t = (r ≡ Err Text) × (t ≡ s)
+ComesOf s None r t = (r ≡ Err fault.Text) × (t ≡ s)
 
 -- the engine that is fitted then, where the line names one
 abbrev pub Fitted : Form → Result Answer ConsoleFault → EngineName → Type 0

@@ -1,17 +1,18 @@
 -- What a calculation comes to, and which it refuses.
-use Rattle.std.specs.Prelude.{ℕ, None, Option}
+use Rattle.std.specs.Prelude.{None, Option}
 use Rattle.arithmetic.specs.Defined.{quotient, quotient_log, square}
 use Rattle.means.specs.Defined.{mean, mean_square, mean_log, mean_square_log}
 use Rattle.engines.specs.declared.meaning.Log.{Log}
 use Rattle.forms.specs.declared.Calculation.{Calculation}
 use Rattle.forms.specs.declared.Calculation.TheVariants.{Divide, Square, Mean, MeanSquare}
 use Rattle.meter.specs.Model.{Model, refuses_empty}
+use Rattle.meter.specs.declared.fault.MeterFault.{MeterFault}
 use Rattle.rounding.specs.Format.{binary32}
 use Rattle.rounding.specs.Rounding.{Outcome}
 use Rattle.rounding.specs.Rules.{rule_of}
 use Rattle.rounding.specs.declared.rules.AnyRule.{AnyRule}
 
-abbrev pub refuses_calculation : Model → Calculation → Option ℕ
+abbrev pub refuses_calculation : Model → Calculation → Option MeterFault
 refuses_calculation m (Divide dividend divisor) = None
 refuses_calculation m (Square operand) = None
 refuses_calculation m Mean = refuses_empty m

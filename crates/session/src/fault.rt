@@ -1,4 +1,4 @@
-// What a line is refused for. A fault of the meter is carried inside, with its layer and number.
+// What a line is refused for. A fault of the meter is carried inside, with its layer and number, by a rule of the project.
 ghost use Rattle.std.specs.Prelude.{◌≡◌};
 ghost use Rattle.session.specs.Faults.{number, layer_of};
 ghost use Rattle.session.specs.declared.fault.ConsoleFault.TheVariants as faults;
@@ -13,6 +13,7 @@ pub enum ConsoleFault {
 }
 
 impl ConsoleFault {
+    // Matches and no casts: a fault of the meter has its own number and layer.
     pub fn number(self) -> u8
         ensures { result ≡ number self }
     {

@@ -1,32 +1,32 @@
 // Calculations: with their flags gathered, or as a trial.
-ghost use Rattle.std.specs.Prelude.{◌≡◌, true, Some, None, MatchResult, bit_or};
+ghost use Rattle.std.specs.Prelude.{◌≡◌, Some, None, MatchResult, bit_or};
 ghost use Rattle.engine_choice.specs.Choice.{log_of};
-ghost use Rattle.meter.specs.Meters.{model};
 ghost use Rattle.forms.specs.declared.Form.TheVariants as form;
 ghost use Rattle.session.specs.Answers.{number_of, Comes};
-ghost use Rattle.session.specs.Faults.{number};
 ghost use Rattle.session.specs.Outcomes.{refuses_calculation, outcome, log_after};
-ghost use Rattle.session.specs.Sessions.{state};
+ghost use Rattle.session.specs.Sessions.{at_desk};
 
-use super::Session;
+use super::Desk;
 use crate::fault::ConsoleFault;
 use answers::Answer;
 use arithmetic::standing::{StandingFlags, Trial};
 use engine_choice::AnyEngine;
 use forms::Calculation;
+use meter::fault::MeterFault;
 use meter::meter::Meter;
 use rounding::encoding::Encoding;
 use rounding::rules::AnyRule;
+use window::average::Average;
 
 // The calculation, whose flags are gathered in the record that is lent.
 fn calculate(
     meter: &mut Meter<AnyEngine, AnyRule>,
     flags: &mut StandingFlags,
     calculation: Calculation,
-) -> Result<Answer, ConsoleFault>
-    ensures result { MatchResult result (λ a. (refuses_calculation (model meter.old) calculation ≡ None) × (a ≡ number_of (outcome meter.old.rule (model meter.old) calculation)) × (flags.new.raised.number ≡ bit_or flags.old.raised.number (outcome meter.old.rule (model meter.old) calculation).flags)) (λ fault. (refuses_calculation (model meter.old) calculation ≡ Some (number fault)) × (flags.new.raised.number ≡ flags.old.raised.number)) }
-    ensures meter { model meter.new ≡ model meter.old }
-    ensures engine { MatchResult result (λ _. log_of meter.new.engine ≡ log_after (log_of meter.old.engine) (model meter.old) calculation) (λ _. log_of meter.new.engine ≡ log_of meter.old.engine) }
+) -> Result<Answer, MeterFault>
+    ensures result { MatchResult result (λ a. (refuses_calculation meter.old.model calculation ≡ None) × (a ≡ number_of (outcome meter.old.rule meter.old.model calculation)) × (flags.new.raised.number ≡ bit_or flags.old.raised.number (outcome meter.old.rule meter.old.model calculation).flags)) (λ fault. (refuses_calculation meter.old.model calculation ≡ Some fault) × (flags.new.raised.number ≡ flags.old.raised.number)) }
+    ensures meter { meter.new.model ≡ meter.old.model }
+    ensures engine { MatchResult result (λ _. log_of meter.new.engine ≡ log_after (log_of meter.old.engine) meter.old.model calculation) (λ _. log_of meter.new.engine ≡ log_of meter.old.engine) }
     ensures rule { meter.new.rule ≡ meter.old.rule }
 {
     let answer = match calculation {
@@ -36,8 +36,8 @@ fn calculate(
             Encoding::from_bits(divisor),
         ),
         Calculation::Square { operand } => meter.square(flags, Encoding::from_bits(operand)),
-        Calculation::Mean => meter.mean(flags)?,
-        Calculation::MeanSquare => meter.mean_square(flags)?,
+        Calculation::Mean => meter.average(flags, Average::Mean)?,
+        Calculation::MeanSquare => meter.average(flags, Average::MeanSquare)?,
     };
     Ok(Answer::Number {
         encoding: answer.encoding.to_bits(),
@@ -45,20 +45,18 @@ fn calculate(
     })
 }
 
-impl Session {
+impl Desk {
     pub(crate) fn compute(&mut self, calculation: Calculation) -> Result<Answer, ConsoleFault>
-        requires { self.old.ready ≡ true }
-        ensures { Comes (state self.old) (form.Compute calculation) result (state self.new) }
+        ensures { Comes (at_desk self.old) (form.Compute calculation) result (at_desk self.new) }
     {
-        calculate(&mut self.meter, &mut self.standing, calculation)
+        Ok(calculate(&mut self.meter, &mut self.standing, calculation)?)
     }
 
     // The record is as before on every way out.
     pub(crate) fn attempt(&mut self, calculation: Calculation) -> Result<Answer, ConsoleFault>
-        requires { self.old.ready ≡ true }
-        ensures { Comes (state self.old) (form.Try calculation) result (state self.new) }
+        ensures { Comes (at_desk self.old) (form.Try calculation) result (at_desk self.new) }
     {
         let trial = Trial::begin(&mut self.standing);
-        calculate(&mut self.meter, trial.standing, calculation)
+        Ok(calculate(&mut self.meter, trial.standing, calculation)?)
     }
 }

@@ -3,7 +3,7 @@ ghost use Rattle.std.specs.Prelude.{◌≡◌, ◌≤◌};
 ghost use Rattle.session.specs.Answers.{Comes, Fitted, Responds, Answered, begun, told};
 ghost use Rattle.session.specs.Sessions.{state, engine_of};
 
-use super::Session;
+use super::{Desk, Session};
 use crate::fault::ConsoleFault;
 use answers::{Answer, write};
 use arithmetic::standing::StandingFlags;
@@ -17,10 +17,7 @@ use rounding::rules::AnyRule;
 fn told(res: Result<Answer, ConsoleFault>) -> Answer
     ensures { result ≡ told res }
 {
-    match res {
-        Ok(answer) => answer,
-        Err(fault) => Answer::Refused(fault.number()),
-    }
+    res.unwrap_or_else(|fault| Answer::Refused(fault.number()))
 }
 
 impl Session {
@@ -29,14 +26,12 @@ impl Session {
         ensures is { state result ≡ begun }
         ensures fitted { engine_of result ≡ EngineName.Digits }
     {
-        let Ok(address) = Address::new(1) else {
-            unreachable()
-        };
-        Session {
+        let address = Address::try_from(1).unwrap();
+        let desk = Desk {
             meter: Meter::new(address, AnyEngine::new(EngineName::Digits), AnyRule::Even),
-            ready: false,
             standing: StandingFlags::new(),
-        }
+        };
+        Session { desk, ready: false }
     }
 
     // What a form comes to.
@@ -46,10 +41,10 @@ impl Session {
     {
         match (form, self.ready) {
             (Form::Meter(setup), false) => self.set_up(setup),
-            (Form::Compute(calculation), true) => self.compute(calculation),
-            (Form::Command(command), true) => self.command(command),
-            (Form::Poll(plan), true) => self.poll(plan),
-            (Form::Try(calculation), true) => self.attempt(calculation),
+            (Form::Compute(calculation), true) => self.desk.compute(calculation),
+            (Form::Command(command), true) => self.desk.command(command),
+            (Form::Poll(plan), true) => self.desk.poll(plan),
+            (Form::Try(calculation), true) => self.desk.attempt(calculation),
             (Form::Meter(_), true) | (_, false) => Err(ConsoleFault::Text),
         }
     }
@@ -58,10 +53,8 @@ impl Session {
     pub fn respond(&mut self, line: &[u8]) -> Result<Answer, ConsoleFault>
         ensures { Responds (state self.old) line.now result (state self.new) (engine_of self.new) }
     {
-        match read(line) {
-            Some(form) => self.take(form),
-            None => Err(ConsoleFault::Text),
-        }
+        let form = read(line).ok_or(ConsoleFault::Text)?;
+        self.take(form)
     }
 
     // Lays the text of the answer at the front of `out`, and says how long it is. The bytes behind it stay.

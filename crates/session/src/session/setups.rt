@@ -19,8 +19,8 @@ impl Session {
         ensures comes { Comes (state self.old) (form.Meter setup) result (state self.new) }
         ensures fitted { Fitted (form.Meter setup) result (engine_of self.new) }
     {
-        let address = Address::new(setup.address)?;
-        self.meter = Meter::new(address, AnyEngine::new(setup.engine), setup.rule);
+        let address = Address::try_from(setup.address)?;
+        self.desk.meter = Meter::new(address, AnyEngine::new(setup.engine), setup.rule);
         self.ready = true;
         Ok(Answer::Ready(setup.address))
     }

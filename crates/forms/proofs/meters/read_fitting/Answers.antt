@@ -4,7 +4,7 @@ use Rattle.forms.proofs.meters.read_fitting.Goals as goal
 use Rattle.forms.specs.Setups.{engine, rule}
 use Rattle.engine_choice.specs.declared.EngineName.{EngineName}
 use Rattle.rounding.specs.declared.rules.AnyRule.{AnyRule}
-use Rattle.lex.proofs.Cuts.{no_first, no_second, no_split}
+use Rattle.lex.proofs.Cuts.{no_first, no_split}
 
 abbrev Any : EngineName → Type 0
 Any _ = Unit {0}
@@ -23,11 +23,4 @@ returns-in_err-read_engine c =
     rw c.from_residual-in_err-read_engine.ensures (
     λ p good e.
     no_first engine rule Any Every (λ a _. solid_engine a) c.args.text.now c.in_ok-engine.engine.now c.in_ok-engine.rule.now c.in_ok-engine.ensures.0 c.in_ok-engine.ensures.1 c.in_err-read_engine.ensures p.0 p.1 tt e
-    )
-
-pub returns-in_err-read_rule : goal.returns-in_err-read_rule
-returns-in_err-read_rule c =
-    rw c.from_residual-in_err-read_rule.ensures (
-    λ p good e.
-    no_second engine rule Any Every (λ a _. solid_engine a) c.args.text.now c.in_ok-engine.engine.now c.in_ok-engine.rule.now c.in_ok-engine.ensures.0 c.in_ok-engine.ensures.1 c.in_err-read_rule.ensures p.0 p.1 tt tt e
     )

@@ -12,9 +12,6 @@ loop-inner-init c = (
   omega (arith, poll_longer c.args.line.now c.in_ok-rest.rest.now c.in_ok-rest.ensures.1),
 )
 
-pub loop-inner-smaller : goal.loop-inner-smaller
-loop-inner-smaller c = omega (arith, shorter c.loop-inner.rest.now c.in-Some.inner.now c.in-Some.ensures.1)
-
 pub loop-inner-preserved : goal.loop-inner-preserved
 loop-inner-preserved c = (
   c.loop-inner.invariant.0 ∙ ap (repeated c.loop-inner.again) c.in-Some.ensures.1 ∙ repeated_more c.loop-inner.again c.in-Some.inner.now,

@@ -1,10 +1,9 @@
 -- Digit by digit, within eight digits of at most four bits.
-use Rattle.std.proofs.Common.{◌≡◌, ℕ, ◌+◌, List, length, get_or, sym, refl, ap, ◌∙◌, arith}
+use Rattle.std.proofs.Common.{ℕ, ◌+◌, List, length, get_or, refl, ap, ◌∙◌, arith}
 use native.Mathlib.Nat.{pow-zero}
 use Rattle.lex.proofs.Places.{digit_at, eight_digits, value_push, word_push}
 use Rattle.lex.proofs.numbers.number.Goals as goal
 use Rattle.lex.specs.Numbers.{digits}
-use Rattle.std.proofs.lemmas.List.{take_all}
 
 pub loop-byte-init : goal.loop-byte-init
 unfolding digits
@@ -33,11 +32,4 @@ loop-byte-preserved c =
     let h = c.in_ok-value.ensures in (
       value_push c.args.base c.loop-byte.byte-index c.loop-byte.value c.in_ok-value.field-0 c.loop-byte.invariant.0 h.0,
       word_push c.args.base c.loop-byte.byte-index c.loop-byte.value c.in_ok-value.field-0 c.args.word.now c.loop-byte-test.true h.0 h.1 c.loop-byte.invariant.1,
-    )
-
-pub returns : goal.returns
-returns c =
-    let all : c.loop-byte.byte-index ≡ length c.args.word.now = omega arith in (
-      rw (← all) c.loop-byte.invariant.0,
-      sym (take_all c.loop-byte.byte-index c.args.word.now (omega arith)) ∙ c.loop-byte.invariant.1 ∙ ap (λ (k : ℕ). digits c.args.base k c.loop-byte.value) all,
     )

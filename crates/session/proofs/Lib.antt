@@ -1,2 +1,0 @@
--- Lemmas of the session.
-pub mod Standing
