@@ -1,10 +1,13 @@
 -- Replies between C's cells and a meter, one more at a time.
-use Rattle.std.proofs.Common.{◌≡◌, ℕ, zero, suc, ◌+◌, ◌<◌, ◌≤◌, true, false, ◌&&◌, List, [], ◌∷◌, ◌++◌, map, length, get_or, take, Some, sym, refl, ap, ◌∙◌, arith}
+use Rattle.std.proofs.Common.{◌≡◌, ℕ, zero, suc, ◌+◌, ◌<◌, ◌≤◌, true, false, ◌&&◌, List, [], ◌∷◌, ◌++◌, map, length, get_or, take, Bool, cond, Some, None, unwrap_or, option_map, sym, refl, ap, ◌∙◌, arith}
 use Rattle.std.proofs.lemmas.List.{take_more, map-append, length-map, length-take-le}
+use Rattle.std.proofs.lemmas.Bool.Decides.{nat_tests}
 use Rattle.std.specs.List.{slice_get}
 use Rattle.rounding.specs.declared.encoding.Encoding.{Encoding}
 use Rattle.rounding.specs.Format.{binary32, is_finite}
-use Rattle.meter.specs.Model.{Model, replied}
+use Rattle.meter.specs.declared.fault.MeterFault.{MeterFault}
+use Rattle.meter.specs.declared.fault.MeterFault.TheVariants.{NotFinite}
+use Rattle.meter.specs.Model.{Model, refuses_reply, polled, replied}
 use Rattle.c_interface.specs.Held.{encodings, all_finite}
 
 -- a meter at rest with these replies
@@ -29,24 +32,40 @@ finite_more (y ∷ ys) x a f =
     ] a
 
 -- one cell that is not finite is enough
-pub finite_stops : (ns : List ℕ) (i n : ℕ) → i < length ns → i < n → is_finite binary32 (get_or ns i 0) ≡ false → all_finite (encodings (take n ns)) ≡ false
+pub finite_stops : (ns : List ℕ) (i : ℕ) → i < length ns → is_finite binary32 (get_or ns i 0) ≡ false → all_finite (encodings ns) ≡ false
 unfolding all_finite
-finite_stops [] i n l h f = absurd (omega arith)
-finite_stops (m ∷ ms) i zero l h f = absurd (omega arith)
-finite_stops (m ∷ ms) zero (suc n) l h f = rw f
-finite_stops (m ∷ ms) (suc i) (suc n) l h f =
-    let e : all_finite (encodings (take n ms)) ≡ false = finite_stops ms i n (omega arith) (omega arith) f in
+finite_stops [] i l f = absurd (omega arith)
+finite_stops (m ∷ ms) zero l f = rw f
+finite_stops (m ∷ ms) (suc i) l f =
+    let e : all_finite (encodings ms) ≡ false = finite_stops ms i (omega arith) f in
     rw e (elim (is_finite binary32 m) as (λ b. b && false ≡ false) [ true ↦ refl | false ↦ refl ])
 
--- a reply's number stands where the reply stands
-pub nth_bits : (xs : List Encoding) (i : ℕ) (x : Encoding) → slice_get xs i ≡ Some x → slice_get (map (λ (e : Encoding). e.bits) xs) i ≡ Some x.bits
-nth_bits [] i x e = let k : ◌≡◌ {A = ℕ} 0 1 = cc in absurd (omega arith)
-nth_bits (y ∷ ys) zero x e = let q : y ≡ x = cc in ap (λ (v : Encoding). Some v.bits) q
-nth_bits (y ∷ ys) (suc i) x e = nth_bits ys i x e
+-- the number of the reply at k, and 0 where none stands
+abbrev pub cell : List Encoding → ℕ → ℕ
+cell xs k = unwrap_or (option_map (λ (x : Encoding). x.bits) (slice_get xs k)) 0
 
--- a meter with the first i replies takes the next one in
-pub refilled_more : (ns : List ℕ) (i a : ℕ) (old new : Model) (x : Encoding) → i < length ns → all_finite (encodings (take i ns)) ≡ true → old ≡ filled a (encodings (take i ns)) → new ≡ replied old x → x.bits ≡ get_or ns i 0 → is_finite binary32 (get_or ns i 0) ≡ true → (all_finite (encodings (take (i + 1) ns)) ≡ true) × (new ≡ filled a (encodings (take (i + 1) ns)))
-refilled_more ns i a old new x h all o n b f =
+pub at_cell : (xs : List Encoding) (k : ℕ) → cell xs k ≡ get_or (map (λ (x : Encoding). x.bits) xs) k 0
+at_cell [] k = refl
+at_cell (x ∷ xs) zero = refl
+at_cell (x ∷ xs) (suc k) = at_cell xs k
+
+-- a reply to the pending poll, where there is room, is refused only where it is not finite
+refuses_infinite : (m : Model) (p : ℕ) (x : Encoding) → m.pending ≡ true → p ≡ m.address → length m.replies < 288 → refuses_reply m p x ≡ cond (is_finite binary32 x.bits) None (Some NotFinite)
+refuses_infinite m p x w e few = grind (arith, nat_tests)
+
+pub taken_finite : (m : Model) (p : ℕ) (x : Encoding) → m.pending ≡ true → p ≡ m.address → length m.replies < 288 → refuses_reply m p x ≡ None → is_finite binary32 x.bits ≡ true
+taken_finite m p x w e few none =
+    let go : (b : Bool) → cond b None (Some NotFinite) ≡ None → b ≡ true = elim [ true ↦ λ h. refl | false ↦ λ h. cc ] in
+    go (is_finite binary32 x.bits) (sym (refuses_infinite m p x w e few) ∙ none)
+
+pub refused_infinite : (m : Model) (p : ℕ) (x : Encoding) (fault : MeterFault) → m.pending ≡ true → p ≡ m.address → length m.replies < 288 → refuses_reply m p x ≡ Some fault → is_finite binary32 x.bits ≡ false
+refused_infinite m p x fault w e few some =
+    let go : (b : Bool) → cond b None (Some NotFinite) ≡ Some fault → b ≡ false = elim [ true ↦ λ h. cc | false ↦ λ h. refl ] in
+    go (is_finite binary32 x.bits) (sym (refuses_infinite m p x w e few) ∙ some)
+
+-- a meter with the first i replies takes the next one in, by a poll of its own
+pub refilled_more : (ns : List ℕ) (i a : ℕ) (waits new : Model) (x : Encoding) → i < length ns → all_finite (encodings (take i ns)) ≡ true → waits ≡ polled (filled a (encodings (take i ns))) → new ≡ replied waits x → x.bits ≡ get_or ns i 0 → is_finite binary32 x.bits ≡ true → (all_finite (encodings (take (i + 1) ns)) ≡ true) × (new ≡ filled a (encodings (take (i + 1) ns)))
+refilled_more ns i a waits new x h all w n b f =
     let more = taken_more ns i h in
     let same : encodings (take i ns) ++ x ∷ [] ≡ encodings (take (i + 1) ns) = ap (λ (v : ℕ). encodings (take i ns) ++ record { bits = v } ∷ []) b ∙ sym more in
-    (rw more (finite_more (encodings (take i ns)) (record { bits = get_or ns i 0 }) all f), n ∙ ap (λ (m : Model). replied m x) o ∙ ap (λ (l : List Encoding). filled a l) same)
+    (ap (λ (l : List Encoding). all_finite l) (sym same) ∙ finite_more (encodings (take i ns)) x all f, n ∙ ap (λ (m : Model). replied m x) w ∙ ap (λ (l : List Encoding). filled a l) same)

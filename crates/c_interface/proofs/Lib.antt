@@ -2,4 +2,3 @@
 pub mod Cells
 pub mod Restoring
 pub mod Returning
-pub mod Telling

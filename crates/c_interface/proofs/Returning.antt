@@ -48,7 +48,7 @@ held_again d h m e low high few all =
 pub again_held : (d r : MeterData) (m : Model) → is_some (held d) ≡ true → r ≡ shown d m → 1 ≤ m.address → m.address ≤ 247 → length m.replies ≤ 288 → all_finite m.replies ≡ true → held r ≡ again (held d) m
 again_held d r m is e low high few all =
     let go : (o : Option Held) → held d ≡ o → is_some o ≡ true → held (shown d m) ≡ again o m = λ o. elim o as (λ v. held d ≡ v → is_some v ≡ true → held (shown d m) ≡ again v m) [
-      | None ↦ λ p s. let z : ◌≡◌ {A = ℕ} 0 1 = cc in absurd (omega arith)
+      | None ↦ λ p s. absurd (cc)
       | Some h ↦ λ p s. held_again d h m p low high few all
     ] in
     ap held e ∙ go (held d) refl is

@@ -1,5 +1,6 @@
 -- Engines and rules by number, and the answers of quotient and square.
 use Rattle.std.specs.Prelude.{ℕ, cond, Some, None, Option, ◌==◌}
+use Rattle.rounding.specs.declared.encoding.Encoding.{Encoding}
 use Rattle.rounding.specs.Format.{binary32}
 use Rattle.rounding.specs.Rounding.{Outcome}
 use Rattle.rounding.specs.Rules.{rule_of}
@@ -12,7 +13,11 @@ use Rattle.engines.specs.declared.meaning.Log.{Log}
 use Rattle.engines.specs.Meaning.{none}
 use Rattle.c_interface.specs.declared.answer.Asked.{Asked}
 use Rattle.c_interface.specs.declared.answer.NumberAnswer.{NumberAnswer}
-use Rattle.c_interface.specs.Refusals.{found}
+use Rattle.c_interface.specs.declared.answer.NewestAnswer.{NewestAnswer}
+use Rattle.c_interface.specs.declared.refusal.Unknown.TheVariants as unknown
+use Rattle.c_interface.specs.declared.refusal.Refusal.{Refusal}
+use Rattle.c_interface.specs.declared.refusal.Refusal.TheVariants.{Unknown}
+use Rattle.c_interface.specs.Refusals.{refusal_number, found}
 
 abbrev pub engine_numbered : ℕ → Option EngineName
 engine_numbered n =
@@ -31,15 +36,21 @@ asked_of log = record { estimates = log.estimates; divisor = log.divisor; divide
 abbrev pub number_of : Outcome → Log → NumberAnswer
 number_of o log = record { bits = o.bits; flags = o.flags; refused = 0; asked = asked_of log }
 
-abbrev pub number_refused : ℕ → NumberAnswer
-number_refused n = record { bits = 0; flags = 0; refused = n; asked = asked_of none }
+abbrev pub number_refused : Refusal → NumberAnswer
+number_refused r = record { bits = 0; flags = 0; refused = refusal_number r; asked = asked_of none }
 
--- a number that names no engine is refused by 101, and then one that names no rule by 102
+-- a number that names no engine is refused first, and then one that names no rule
 abbrev pub quotient_answer : ℕ → ℕ → ℕ → ℕ → NumberAnswer
 quotient_answer engine rule x y =
-    found (engine_numbered engine) (number_refused 101) (λ e.
-    found (rule_numbered rule) (number_refused 102) (λ r.
+    found (engine_numbered engine) (number_refused (Unknown unknown.Engine)) (λ e.
+    found (rule_numbered rule) (number_refused (Unknown unknown.Rule)) (λ r.
     number_of (quotient binary32 (rule_of r) x y) (quotient_log binary32 none x y)))
 
 abbrev pub square_answer : ℕ → ℕ → NumberAnswer
-square_answer rule x = found (rule_numbered rule) (number_refused 102) (λ r. number_of (square binary32 (rule_of r) x) none)
+square_answer rule x = found (rule_numbered rule) (number_refused (Unknown unknown.Rule)) (λ r. number_of (square binary32 (rule_of r) x) none)
+
+-- an accepted answer of the newest reply, where one stands
+abbrev pub newest_told : Option Encoding → NewestAnswer
+newest_told o =
+    found o (record { bits = 0; present = 0; refused = 0 }) (λ x.
+    record { bits = x.bits; present = 1; refused = 0 })

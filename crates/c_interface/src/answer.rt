@@ -1,10 +1,13 @@
 // What goes back to C: structs of plain numbers. A `refused` of 0 says that the call was accepted.
+// C has no Option and no Result, so `refused`, `present` and a poll's two numbers stand beside the values.
 ghost use Rattle.std.specs.Prelude.{◌≡◌};
-ghost use Rattle.c_interface.specs.Numbers.{asked_of, number_refused};
+ghost use Rattle.c_interface.specs.Numbers.{asked_of, number_refused, newest_told};
 
 use crate::data::MeterData;
+use crate::refusal::Refusal;
 use engines::Log;
 use replay::step::SeenPoll;
+use rounding::encoding::Encoding;
 use rounding::round::Answer;
 
 // What a call asked its engine: how many estimates, and the last pair.
@@ -26,10 +29,10 @@ pub struct NumberAnswer {
     pub asked: Asked,
 }
 
-impl Asked {
-    fn of(log: Log) -> Asked
-        ensures { result ≡ asked_of log }
-    {
+impl From<Log> for Asked {
+    ghost from_gives = { λ log asked. asked ≡ asked_of log };
+
+    fn from(log: Log) -> Asked {
         Asked {
             estimates: log.estimates,
             divisor: log.divisor,
@@ -46,18 +49,20 @@ impl NumberAnswer {
             bits: answer.encoding.to_bits(),
             flags: answer.flags.number(),
             refused: 0,
-            asked: Asked::of(log),
+            asked: log.into(),
         }
     }
+}
 
-    pub fn refused(refused: u8) -> NumberAnswer
-        ensures { result ≡ number_refused refused }
-    {
+impl From<Refusal> for NumberAnswer {
+    ghost from_gives = { λ refusal answer. answer ≡ number_refused refusal };
+
+    fn from(refusal: Refusal) -> NumberAnswer {
         NumberAnswer {
             bits: 0,
             flags: 0,
-            refused,
-            asked: Asked::of(Log::new()),
+            refused: refusal.number(),
+            asked: Log::new().into(),
         }
     }
 }
@@ -122,4 +127,16 @@ pub struct NewestAnswer {
     pub bits: u32,
     pub present: u8,
     pub refused: u8,
+}
+
+impl From<Option<Encoding>> for NewestAnswer {
+    ghost from_gives = { λ newest answer. answer ≡ newest_told newest };
+
+    fn from(newest: Option<Encoding>) -> NewestAnswer {
+        NewestAnswer {
+            bits: newest.map_or(0, |reply| reply.to_bits()),
+            present: newest.is_some() as u8,
+            refused: 0,
+        }
+    }
 }

@@ -1,4 +1,5 @@
-// A meter as C holds it: plain numbers, any of which may be wrong.
+// A meter as C holds it: plain numbers, any of which may be wrong. C has no enum that is checked and
+// no slice, so kinds are numbers and the count of replies stands beside their cells.
 #[repr(C)]
 #[derive(Clone, Copy)]
 pub struct MeterData {

@@ -1,5 +1,5 @@
 // Quotient and square for C with the engine and the rule fixed when the firmware is built, ties to even: they stand in for a compiler's own
-// division and product, look no number up and refuse nothing.
+// division and product, look no number up and refuse nothing. One body, three names that C links, each with the promise in full.
 ghost use Rattle.std.specs.Prelude.{◌≡◌};
 ghost use Rattle.rounding.specs.Format.{binary32};
 ghost use Rattle.rounding.specs.Rules.{even_rule};
@@ -25,56 +25,59 @@ pub struct RoundedAnswer {
     pub flags: u8,
 }
 
-fn given(answer: Answer) -> RoundedAnswer
-    ensures { result ≡ record { bits = answer.encoding.bits; flags = answer.flags.number } }
-{
-    RoundedAnswer {
-        bits: answer.encoding.to_bits(),
-        flags: answer.flags.number(),
+impl From<Answer> for RoundedAnswer {
+    ghost from_gives = { λ answer r. r ≡ record { bits = answer.encoding.bits; flags = answer.flags.number } };
+
+    fn from(answer: Answer) -> RoundedAnswer {
+        RoundedAnswer {
+            bits: answer.encoding.to_bits(),
+            flags: answer.flags.number(),
+        }
     }
 }
 
-fn even_quotient<E: Engine>(engine: &mut E, dividend: u32, divisor: u32) -> RoundedAnswer
+fn even_quotient<E: Engine + Drop>(mut engine: E, dividend: u32, divisor: u32) -> RoundedAnswer
     ensures { result ≡ rounded_answer (quotient binary32 even_rule dividend divisor) }
 {
-    let mut standing = StandingFlags::new();
-    given(quotient(
-        engine,
+    let answer = quotient(
+        &mut engine,
         &Even,
-        &mut standing,
+        &mut StandingFlags::new(),
         Encoding::from_bits(dividend),
         Encoding::from_bits(divisor),
-    ))
+    );
+    answer.into()
 }
 
 #[unsafe(no_mangle)]
 pub extern "C" fn wozkerrim_quotient_digits(dividend: u32, divisor: u32) -> RoundedAnswer
     ensures { result ≡ rounded_answer (quotient binary32 even_rule dividend divisor) }
 {
-    let mut engine = Digits::new();
-    even_quotient(&mut engine, dividend, divisor)
+    even_quotient(Digits::new(), dividend, divisor)
 }
 
 #[unsafe(no_mangle)]
 pub extern "C" fn wozkerrim_quotient_radix4(dividend: u32, divisor: u32) -> RoundedAnswer
     ensures { result ≡ rounded_answer (quotient binary32 even_rule dividend divisor) }
 {
-    let mut engine = Radix4::new();
-    even_quotient(&mut engine, dividend, divisor)
+    even_quotient(Radix4::new(), dividend, divisor)
 }
 
 #[unsafe(no_mangle)]
 pub extern "C" fn wozkerrim_quotient_cubic(dividend: u32, divisor: u32) -> RoundedAnswer
     ensures { result ≡ rounded_answer (quotient binary32 even_rule dividend divisor) }
 {
-    let mut engine = Cubic::new();
-    even_quotient(&mut engine, dividend, divisor)
+    even_quotient(Cubic::new(), dividend, divisor)
 }
 
 #[unsafe(no_mangle)]
 pub extern "C" fn wozkerrim_square_even(operand: u32) -> RoundedAnswer
     ensures { result ≡ rounded_answer (square binary32 even_rule operand) }
 {
-    let mut standing = StandingFlags::new();
-    given(square(&Even, &mut standing, Encoding::from_bits(operand)))
+    square(
+        &Even,
+        &mut StandingFlags::new(),
+        Encoding::from_bits(operand),
+    )
+    .into()
 }

@@ -8,7 +8,7 @@ pub mod data;
 pub mod fixed;
 pub mod numbers;
 pub mod polls;
+mod refusal;
 pub mod replies;
 mod restored;
 mod shown;
-mod unknown;

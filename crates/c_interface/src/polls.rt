@@ -1,20 +1,20 @@
 // A meter's polls for C: begun, repeated, and ended by a reply or a lapse.
-ghost use Rattle.std.specs.Prelude.{◌≡◌, None};
+ghost use Rattle.std.specs.Prelude.{◌≡◌};
 ghost use Rattle.meter.specs.Model.{refuses_poll, polled, replied, lapsed};
+ghost use Rattle.c_interface.specs.Refusals.{answered};
 ghost use Rattle.c_interface.specs.Held.{held};
-ghost use Rattle.c_interface.specs.Calls.{next, reply_refusal, lapse_refusal, new_held, new_answer, poll_answer, repeat_answer, reply_answer, lapse_answer, empty, no_meter, no_poll};
+ghost use Rattle.c_interface.specs.Calls.{next, reply_refusal, lapse_refusal, new_held, new_refused, new_answer, poll_refused, poll_answer, repeat_refused, repeat_answer, reply_refused, reply_answer, lapse_refused, lapse_answer, empty, no_poll};
 
 use crate::answer::{MeterAnswer, PollAnswer, RepeatAnswer, ReplyAnswer};
 use crate::chosen::{engine_numbered, rule_numbered};
 use crate::data::MeterData;
+use crate::refusal::{Refusal, Unknown};
 use crate::restored::restored;
 use crate::shown::shown;
-use crate::unknown::Unknown;
 use meter::address::Address;
-use meter::token::Refused;
 use named_polls::named;
 use replay::step::SeenPoll;
-use replay::tokens::{seen_and_ended, token_of};
+use replay::tokens::token_of;
 use rounding::encoding::Encoding;
 
 // A meter at rest, with nothing standing; all numbers 0 where it is refused.
@@ -32,14 +32,17 @@ fn empty(address: u8, engine: u8, rule: u8) -> MeterData
     }
 }
 
-fn not_made(refused: u8) -> MeterAnswer
-    ensures is { result ≡ record { meter = no_meter; refused = refused } }
-    ensures none { held result.meter ≡ None }
+fn made(address: u16, engine: u8, rule: u8) -> Result<MeterAnswer, Refusal>
+    ensures answer { answered result new_refused ≡ new_answer address engine rule }
+    ensures stands { held (answered result new_refused).meter ≡ new_held address engine rule }
 {
-    MeterAnswer {
-        meter: empty(0, 0, 0),
-        refused,
-    }
+    let _ = engine_numbered(engine)?;
+    let _ = rule_numbered(rule)?;
+    let checked = Address::try_from(address)?;
+    Ok(MeterAnswer {
+        meter: empty(checked.number(), engine, rule),
+        refused: 0,
+    })
 }
 
 #[unsafe(no_mangle)]
@@ -47,21 +50,13 @@ pub extern "C" fn wozkerrim_meter_new(address: u16, engine: u8, rule: u8) -> Met
     ensures answer { result ≡ new_answer address engine rule }
     ensures stands { held result.meter ≡ new_held address engine rule }
 {
-    let Some(_) = engine_numbered(engine) else {
-        return not_made(Unknown::Engine.number());
-    };
-    let Some(_) = rule_numbered(rule) else {
-        return not_made(Unknown::Rule.number());
-    };
-    match Address::new(address) {
-        Ok(checked) => MeterAnswer {
-            meter: empty(checked.number(), engine, rule),
-            refused: 0,
-        },
-        Err(fault) => not_made(fault.number()),
-    }
+    made(address, engine, rule).unwrap_or_else(|refusal| MeterAnswer {
+        meter: empty(0, 0, 0),
+        refused: refusal.number(),
+    })
 }
 
+// The type is the replay's, so no Default can be derived here.
 fn no_poll() -> SeenPoll
     ensures { result ≡ no_poll }
 {
@@ -71,30 +66,41 @@ fn no_poll() -> SeenPoll
     }
 }
 
+fn begun(meter: &MeterData) -> Result<PollAnswer, Refusal>
+    ensures answer { answered result (poll_refused meter.now) ≡ poll_answer meter.now }
+    ensures stands { held (answered result (poll_refused meter.now)).meter ≡ next meter.now refuses_poll polled }
+{
+    let mut held = restored(meter)?;
+    let poll = held.poll()?;
+    Ok(PollAnswer {
+        meter: shown(meter, &held),
+        poll: poll.into(),
+        refused: 0,
+    })
+}
+
 #[unsafe(no_mangle)]
 pub extern "C" fn wozkerrim_poll(meter: MeterData) -> PollAnswer
     ensures answer { result ≡ poll_answer meter }
     ensures stands { held result.meter ≡ next meter refuses_poll polled }
 {
-    let Some(mut held) = restored(&meter) else {
-        return PollAnswer {
-            meter,
-            poll: no_poll(),
-            refused: Unknown::Meter.number(),
-        };
-    };
-    match held.poll() {
-        Ok(poll) => PollAnswer {
-            meter: shown(&meter, &held),
-            poll: seen_and_ended(held.address(), poll),
-            refused: 0,
-        },
-        Err(fault) => PollAnswer {
-            meter,
-            poll: no_poll(),
-            refused: fault.number(),
-        },
-    }
+    begun(&meter).unwrap_or_else(|refusal| PollAnswer {
+        meter,
+        poll: no_poll(),
+        refused: refusal.number(),
+    })
+}
+
+fn repeated(meter: &MeterData, poll: SeenPoll) -> Result<RepeatAnswer, Refusal>
+    ensures { answered result (repeat_refused poll) ≡ repeat_answer meter.now poll }
+{
+    let mut held = restored(meter)?;
+    let known = named(poll).ok_or(Unknown::Poll)?;
+    let next = held.repeat(token_of(known))?;
+    Ok(RepeatAnswer {
+        poll: next.into(),
+        refused: 0,
+    })
 }
 
 // The same poll at its next attempt; a refused one comes back as it was.
@@ -102,28 +108,25 @@ pub extern "C" fn wozkerrim_poll(meter: MeterData) -> PollAnswer
 pub extern "C" fn wozkerrim_repeat(meter: MeterData, poll: SeenPoll) -> RepeatAnswer
     ensures { result ≡ repeat_answer meter poll }
 {
-    let Some(mut held) = restored(&meter) else {
-        return RepeatAnswer {
-            poll,
-            refused: Unknown::Meter.number(),
-        };
-    };
-    let Some(known) = named(poll) else {
-        return RepeatAnswer {
-            poll,
-            refused: Unknown::Poll.number(),
-        };
-    };
-    match held.repeat(token_of(known)) {
-        Ok(next) => RepeatAnswer {
-            poll: seen_and_ended(known.address, next),
-            refused: 0,
-        },
-        Err(Refused { poll: back, fault }) => RepeatAnswer {
-            poll: seen_and_ended(known.address, back),
-            refused: fault.number(),
-        },
-    }
+    repeated(&meter, poll).unwrap_or_else(|refusal| RepeatAnswer {
+        poll,
+        refused: refusal.number(),
+    })
+}
+
+fn replied(meter: &MeterData, poll: SeenPoll, reply: Encoding) -> Result<ReplyAnswer, Refusal>
+    ensures answer { answered result (reply_refused meter.now poll) ≡ reply_answer meter.now poll reply.bits }
+    ensures stands { held (answered result (reply_refused meter.now poll)).meter ≡ next meter.now (reply_refusal poll reply.bits) (λ m. replied m reply) }
+{
+    let mut held = restored(meter)?;
+    let known = named(poll).ok_or(Unknown::Poll)?;
+    let standing = held.reply(token_of(known), reply)?;
+    Ok(ReplyAnswer {
+        meter: shown(meter, &held),
+        poll: no_poll(),
+        standing: standing as u16,
+        refused: 0,
+    })
 }
 
 // The reply stands as the newest and the poll is over; a refused one comes back as it was.
@@ -132,36 +135,25 @@ pub extern "C" fn wozkerrim_reply(meter: MeterData, poll: SeenPoll, bits: u32) -
     ensures answer { result ≡ reply_answer meter poll bits }
     ensures stands { held result.meter ≡ next meter (reply_refusal poll bits) (λ m. replied m (record { bits = bits })) }
 {
-    let Some(mut held) = restored(&meter) else {
-        return ReplyAnswer {
-            meter,
-            poll,
-            standing: 0,
-            refused: Unknown::Meter.number(),
-        };
-    };
-    let Some(known) = named(poll) else {
-        return ReplyAnswer {
-            meter,
-            poll,
-            standing: 0,
-            refused: Unknown::Poll.number(),
-        };
-    };
-    match held.reply(token_of(known), Encoding::from_bits(bits)) {
-        Ok(standing) => ReplyAnswer {
-            meter: shown(&meter, &held),
-            poll: no_poll(),
-            standing: standing as u16,
-            refused: 0,
-        },
-        Err(Refused { poll: back, fault }) => ReplyAnswer {
-            meter,
-            poll: seen_and_ended(known.address, back),
-            standing: 0,
-            refused: fault.number(),
-        },
-    }
+    replied(&meter, poll, Encoding::from_bits(bits)).unwrap_or_else(|refusal| ReplyAnswer {
+        meter,
+        poll,
+        standing: 0,
+        refused: refusal.number(),
+    })
+}
+
+fn lapsed(meter: &MeterData, poll: SeenPoll) -> Result<MeterAnswer, Refusal>
+    ensures answer { answered result (lapse_refused meter.now) ≡ lapse_answer meter.now poll }
+    ensures stands { held (answered result (lapse_refused meter.now)).meter ≡ next meter.now (lapse_refusal poll) lapsed }
+{
+    let mut held = restored(meter)?;
+    let known = named(poll).ok_or(Unknown::Poll)?;
+    held.lapse(token_of(known))?;
+    Ok(MeterAnswer {
+        meter: shown(meter, &held),
+        refused: 0,
+    })
 }
 
 // The poll is over without a reply.
@@ -170,26 +162,8 @@ pub extern "C" fn wozkerrim_lapse(meter: MeterData, poll: SeenPoll) -> MeterAnsw
     ensures answer { result ≡ lapse_answer meter poll }
     ensures stands { held result.meter ≡ next meter (lapse_refusal poll) lapsed }
 {
-    let Some(mut held) = restored(&meter) else {
-        return MeterAnswer {
-            meter,
-            refused: Unknown::Meter.number(),
-        };
-    };
-    let Some(known) = named(poll) else {
-        return MeterAnswer {
-            meter,
-            refused: Unknown::Poll.number(),
-        };
-    };
-    match held.lapse(token_of(known)) {
-        Ok(()) => MeterAnswer {
-            meter: shown(&meter, &held),
-            refused: 0,
-        },
-        Err(fault) => MeterAnswer {
-            meter,
-            refused: fault.number(),
-        },
-    }
+    lapsed(&meter, poll).unwrap_or_else(|refusal| MeterAnswer {
+        meter,
+        refused: refusal.number(),
+    })
 }

@@ -1,22 +1,47 @@
 // A meter's standing replies for C: taken away from either end, read, and the greatest of them.
 ghost use Rattle.std.specs.Prelude.{◌≡◌};
 ghost use Rattle.meter.specs.Model.{refuses_empty, retired, retracted};
+ghost use Rattle.c_interface.specs.Refusals.{answered};
 ghost use Rattle.c_interface.specs.Held.{held};
-ghost use Rattle.c_interface.specs.Calls.{next, retire_answer, retract_answer, PeakAnswers, newest_answer};
+ghost use Rattle.c_interface.specs.Calls.{next, less, less_refused, less_answer, retire_answer, retract_answer, no_peak, PeakAnswers, newest_answer};
 
 use crate::answer::{CountAnswer, NewestAnswer, PeakAnswer};
 use crate::data::MeterData;
+use crate::refusal::Refusal;
 use crate::restored::restored;
 use crate::shown::shown;
-use crate::unknown::Unknown;
 
-fn kept(meter: MeterData, refused: u8) -> CountAnswer
-    ensures { result ≡ record { meter = meter; standing = 0; refused = refused } }
+// At which end a reply goes. An enum and no closure: its name stands in the contract, where a closure would be known by what it leaves behind a `&mut`.
+#[derive(Clone, Copy)]
+enum End {
+    Oldest,
+    Newest,
+}
+
+// The reply at this end goes.
+fn taken_away(meter: &MeterData, end: End) -> Result<CountAnswer, Refusal>
+    ensures answer { answered result (less_refused meter.now) ≡ less_answer (less end) meter.now }
+    ensures stands { held (answered result (less_refused meter.now)).meter ≡ next meter.now refuses_empty (less end) }
+{
+    let mut held = restored(meter)?;
+    let standing = match end {
+        End::Oldest => held.retire()?,
+        End::Newest => held.retract()?,
+    };
+    Ok(CountAnswer {
+        meter: shown(meter, &held),
+        standing: standing as u16,
+        refused: 0,
+    })
+}
+
+fn kept(meter: MeterData, refusal: Refusal) -> CountAnswer
+    ensures { result ≡ less_refused meter refusal }
 {
     CountAnswer {
         meter,
         standing: 0,
-        refused,
+        refused: refusal.number(),
     }
 }
 
@@ -26,17 +51,7 @@ pub extern "C" fn wozkerrim_retire(meter: MeterData) -> CountAnswer
     ensures answer { result ≡ retire_answer meter }
     ensures stands { held result.meter ≡ next meter refuses_empty retired }
 {
-    let Some(mut held) = restored(&meter) else {
-        return kept(meter, Unknown::Meter.number());
-    };
-    match held.retire() {
-        Ok(standing) => CountAnswer {
-            meter: shown(&meter, &held),
-            standing: standing as u16,
-            refused: 0,
-        },
-        Err(fault) => kept(meter, fault.number()),
-    }
+    taken_away(&meter, End::Oldest).unwrap_or_else(|refusal| kept(meter, refusal))
 }
 
 // The newest reply goes.
@@ -45,27 +60,18 @@ pub extern "C" fn wozkerrim_retract(meter: MeterData) -> CountAnswer
     ensures answer { result ≡ retract_answer meter }
     ensures stands { held result.meter ≡ next meter refuses_empty retracted }
 {
-    let Some(mut held) = restored(&meter) else {
-        return kept(meter, Unknown::Meter.number());
-    };
-    match held.retract() {
-        Ok(standing) => CountAnswer {
-            meter: shown(&meter, &held),
-            standing: standing as u16,
-            refused: 0,
-        },
-        Err(fault) => kept(meter, fault.number()),
-    }
+    taken_away(&meter, End::Newest).unwrap_or_else(|refusal| kept(meter, refusal))
 }
 
-fn no_peak(refused: u8) -> PeakAnswer
-    ensures { result ≡ record { place = 0; bits = 0; refused = refused } }
+fn peaked(meter: &MeterData) -> Result<PeakAnswer, Refusal>
+    ensures { PeakAnswers meter.now (answered result no_peak) }
 {
-    PeakAnswer {
-        place: 0,
-        bits: 0,
-        refused,
-    }
+    let peak = restored(meter)?.peak()?;
+    Ok(PeakAnswer {
+        place: peak.place as u16,
+        bits: peak.encoding.to_bits(),
+        refused: 0,
+    })
 }
 
 // The greatest standing reply by value, the oldest among equals.
@@ -73,17 +79,11 @@ fn no_peak(refused: u8) -> PeakAnswer
 pub extern "C" fn wozkerrim_peak(meter: MeterData) -> PeakAnswer
     ensures { PeakAnswers meter result }
 {
-    let Some(held) = restored(&meter) else {
-        return no_peak(Unknown::Meter.number());
-    };
-    match held.peak() {
-        Ok(peak) => PeakAnswer {
-            place: peak.place as u16,
-            bits: peak.encoding.to_bits(),
-            refused: 0,
-        },
-        Err(fault) => no_peak(fault.number()),
-    }
+    peaked(&meter).unwrap_or_else(|refusal| PeakAnswer {
+        place: 0,
+        bits: 0,
+        refused: refusal.number(),
+    })
 }
 
 // The newest standing reply, where one stands.
@@ -91,23 +91,12 @@ pub extern "C" fn wozkerrim_peak(meter: MeterData) -> PeakAnswer
 pub extern "C" fn wozkerrim_newest(meter: MeterData) -> NewestAnswer
     ensures { result ≡ newest_answer meter }
 {
-    let Some(held) = restored(&meter) else {
-        return NewestAnswer {
+    match restored(&meter) {
+        Ok(held) => held.newest().into(),
+        Err(unknown) => NewestAnswer {
             bits: 0,
             present: 0,
-            refused: Unknown::Meter.number(),
-        };
-    };
-    match held.newest() {
-        Some(reply) => NewestAnswer {
-            bits: reply.to_bits(),
-            present: 1,
-            refused: 0,
-        },
-        None => NewestAnswer {
-            bits: 0,
-            present: 0,
-            refused: 0,
+            refused: unknown.number(),
         },
     }
 }

@@ -1,104 +1,64 @@
 // The meter that C's numbers stand for: checked, and rebuilt through a meter's public calls.
-ghost use Rattle.std.specs.Prelude.{◌≡◌, ◌<◌, ◌≤◌, true, false, length, take, IfSome, Some, None, MatchOption, ◌==◌};
-ghost use Rattle.rounding.specs.Format.{binary32, is_finite};
+ghost use Rattle.std.specs.Prelude.{◌≡◌, ◌≤◌, true, false, length, Some, None, IfOk, MatchResult};
 ghost use Rattle.engines.specs.Meaning.{none};
 ghost use Rattle.engine_choice.specs.Choice.{named, log_of};
-ghost use Rattle.meter.specs.Meters.{model};
-ghost use Rattle.meter.specs.Model.{fresh, polled, replied};
+ghost use Rattle.meter.specs.Model.{fresh};
 ghost use Rattle.c_interface.specs.Held.{held, encodings, all_finite};
 
 use crate::chosen::{engine_numbered, rule_numbered};
 use crate::data::MeterData;
+use crate::refusal::{Refusal, Unknown};
 use engine_choice::AnyEngine;
 use meter::address::Address;
 use meter::meter::Meter;
-use meter::token::{PendingPoll, Refused};
-use replay::tokens::seen_and_ended;
+use replay::step::SeenPoll;
 use rounding::encoding::Encoding;
 use rounding::rules::AnyRule;
 
-fn begun(meter: &mut Meter<AnyEngine, AnyRule>) -> PendingPoll
-    requires { meter.old.pending ≡ false }
-    ensures poll { result.address ≡ meter.old.address.number }
-    ensures after { model meter.new ≡ polled (model meter.old) }
+// The replies, put into a new meter by a poll each; refused where one of them is not finite.
+fn refill(meter: &mut Meter<AnyEngine, AnyRule>, replies: &[u32]) -> Result<(), Refusal>
+    requires { (meter.old.model ≡ fresh meter.old.model.address) × (length replies.now ≤ 288) }
+    ensures after { MatchResult result (λ _. (all_finite (encodings replies.now) ≡ true) × (meter.new.model ≡ record { address = meter.old.model.address; pending = false; replies = encodings replies.now })) (λ _. all_finite (encodings replies.now) ≡ false) }
     ensures engine { meter.new.engine ≡ meter.old.engine }
     ensures rule { meter.new.rule ≡ meter.old.rule }
 {
-    match meter.poll() {
-        Ok(poll) => poll,
-        Err(_) => unreachable(),
+    for bits in replies {
+        let poll = meter.poll()?;
+        let _ = meter.reply(poll, Encoding::from_bits(*bits))?;
     }
+    Ok(())
 }
 
-// One more reply, by a poll of its own; says whether it is finite. If not, nothing has changed.
-fn put_back(meter: &mut Meter<AnyEngine, AnyRule>, reply: Encoding) -> bool
-    requires { (meter.old.pending ≡ false) × (length (model meter.old).replies < 288) }
-    ensures finite { result ≡ is_finite binary32 reply.bits }
-    ensures after { result ≡ true → model meter.new ≡ replied (model meter.old) reply }
-    ensures engine { meter.new.engine ≡ meter.old.engine }
-    ensures rule { meter.new.rule ≡ meter.old.rule }
-{
-    let poll = begun(meter);
-    match meter.reply(poll, reply) {
-        Ok(_) => true,
-        Err(
-            Refused {
-                poll: back,
-                fault: _,
-            },
-        ) => {
-            let _ = meter.lapse(back);
-            false
-        }
-    }
-}
-
-// The first replies, put into a new meter; says whether they all are finite.
-fn refill(meter: &mut Meter<AnyEngine, AnyRule>, replies: &[u32; 288], standing: usize) -> bool
-    requires { (model meter.old ≡ fresh meter.old.address.number) × (standing ≤ 288) }
-    ensures finite { result ≡ all_finite (encodings (take standing replies.now)) }
-    ensures after { result ≡ true → model meter.new ≡ record { address = meter.old.address.number; pending = false; replies = encodings (take standing replies.now) } }
-    ensures engine { meter.new.engine ≡ meter.old.engine }
-    ensures rule { meter.new.rule ≡ meter.old.rule }
-{
-    for i in 0..standing {
-        if !put_back(meter, Encoding::from_bits(replies[i])) {
-            return false;
-        }
-    }
-    true
-}
-
-// A poll is pending from here on where the number says so; its token stays with C, as numbers.
-fn wait(meter: &mut Meter<AnyEngine, AnyRule>, pending: u8)
-    requires { meter.old.pending ≡ false }
-    ensures after { model meter.new ≡ record { address = meter.old.address.number; pending = (pending == 1); replies = (model meter.old).replies } }
-    ensures engine { meter.new.engine ≡ meter.old.engine }
-    ensures rule { meter.new.rule ≡ meter.old.rule }
-{
-    if pending == 1 {
-        let poll = begun(meter);
-        let _ = seen_and_ended(meter.address(), poll);
-    }
-}
-
-// None where the numbers stand for no meter. The engine is new, so what it notes is of one call.
-pub fn restored(numbers: &MeterData) -> Option<Meter<AnyEngine, AnyRule>>
-    ensures held { MatchOption result (held numbers.now ≡ None) (λ m. held numbers.now ≡ Some (record { model = model m; engine = named m.engine; rule = m.rule })) }
-    ensures fresh { IfSome result (λ m. log_of m.engine ≡ none) }
+// The engine is new, so what it notes is of one call.
+fn rebuilt(numbers: &MeterData) -> Result<Meter<AnyEngine, AnyRule>, Refusal>
+    ensures held { MatchResult result (λ m. held numbers.now ≡ Some (record { model = m.model; engine = named m.engine; rule = m.rule })) (λ _. held numbers.now ≡ None) }
+    ensures fresh { IfOk result (λ m. log_of m.engine ≡ none) }
 {
     let engine = engine_numbered(numbers.engine)?;
     let rule = rule_numbered(numbers.rule)?;
-    let Ok(address) = Address::new(numbers.address as u16) else {
-        return None;
-    };
-    if numbers.standing > 288 || numbers.pending > 1 {
-        return None;
-    }
+    let address = Address::try_from(u16::from(numbers.address))?;
+    let replies = numbers
+        .replies
+        .get(..numbers.standing as usize)
+        .ok_or(Unknown::Meter)?;
     let mut meter = Meter::new(address, AnyEngine::new(engine), rule);
-    if !refill(&mut meter, &numbers.replies, numbers.standing as usize) {
-        return None;
+    refill(&mut meter, replies)?;
+    if numbers.pending > 1 {
+        return Err(Unknown::Meter.into());
     }
-    wait(&mut meter, numbers.pending);
-    Some(meter)
+    let waits = numbers.pending == 1;
+    // A pending poll's token stays with C, as numbers.
+    if waits {
+        let poll = meter.poll()?;
+        let _ = SeenPoll::from(poll);
+    }
+    Ok(meter)
+}
+
+// Whatever is wrong with the numbers, they stand for no meter.
+pub fn restored(numbers: &MeterData) -> Result<Meter<AnyEngine, AnyRule>, Unknown>
+    ensures held { MatchResult result (λ m. held numbers.now ≡ Some (record { model = m.model; engine = named m.engine; rule = m.rule })) (λ unknown. (held numbers.now ≡ None) × (unknown ≡ Unknown.Meter)) }
+    ensures fresh { IfOk result (λ m. log_of m.engine ≡ none) }
+{
+    rebuilt(numbers).map_err(|_| Unknown::Meter)
 }

@@ -1,41 +1,46 @@
-use Rattle.std.proofs.Common.{◌≡◌, ℕ, true, false, List, length, get_or, sym, ap, ◌∙◌, arith, rules}
+use Rattle.std.proofs.Common.{◌≡◌, ℕ, false, List, length, sym, ap, ◌∙◌, arith, rules}
+use Rattle.std.proofs.lemmas.Result.{err_from_is_err_and}
 use Rattle.rounding.specs.Format.{binary32, is_finite}
-use Rattle.meter.specs.Meters.{model}
-use Rattle.meter.specs.Model.{Model}
+use Rattle.rounding.specs.declared.rules.AnyRule.{AnyRule}
+use Rattle.engine_choice.specs.declared.AnyEngine.{AnyEngine}
+use Rattle.meter.specs.Meters.{Seen}
+use Rattle.meter.specs.Model.{Model, polled}
 use Rattle.c_interface.specs.Held.{all_finite}
-use Rattle.c_interface.proofs.Cells.{taken_length, finite_stops, refilled_more}
+use Rattle.c_interface.proofs.Cells.{taken_length, finite_stops, taken_finite, refused_infinite, refilled_more}
 use Rattle.c_interface.proofs.restored.refill.Goals as goal
 
-pub loop-i-init : goal.loop-i-init
+pub loop-bits-init : goal.loop-bits-init
 unfolding all_finite
-loop-i-init c = search rules
+loop-bits-init c = search rules
 
-pub put_back-requires : goal.put_back-requires
-put_back-requires c =
-    let m = c.loop-i.invariant.1 in
-    let long : length c.args.replies.now ≡ 288 = search rules in
-    let few = taken_length c.args.replies.now c.loop-i.i (omega arith) in
-    (ap (λ (m : Model). m.pending) m, omega (arith, ap (λ (m : Model). length m.replies) m, few))
+pub returns-in_err-poll : goal.returns-in_err-poll
+returns-in_err-poll c =
+    let rest : c.loop-bits.meter.model.pending ≡ false = ap (λ (m : Model). m.pending) c.loop-bits.invariant.taken in
+    let k = rw rest at c.in_err-poll.ensures.result in
+    absurd (cc)
 
-pub returns-then-not-put_back : goal.returns-then-not-put_back
-returns-then-not-put_back c =
+pub returns-in_err-reply-clause-after : goal.returns-in_err-reply-clause-after
+returns-in_err-reply-clause-after c =
+    let p = err_from_is_err_and c.from_residual-in_err-reply.result c.from_residual-in_err-reply.ensures.1 in
     let ns : List ℕ = c.args.replies.now in
-    let f : is_finite binary32 (get_or ns c.loop-i.i 0) ≡ false = search rules in
-    let long : length ns ≡ 288 = search rules in
-    let stops = finite_stops ns c.loop-i.i c.args.standing (omega arith) c.loop-i-test.true f in
-    record {
-      finite = sym stops;
-      after = λ h. let z : ◌≡◌ {A = ℕ} 0 1 = cc in absurd (omega arith);
-      engine = c.put_back.ensures.engine ∙ c.loop-i.invariant.2;
-      rule = c.put_back.ensures.rule ∙ c.loop-i.invariant.3;
-    }
+    let i : ℕ = c.loop-bits.bits-index in
+    let m = c.poll.new.self.model in
+    let begun = rw c.in_ok-poll.ensures.result.0 at c.poll.ensures.after in
+    let waits = ap (λ (s : Seen AnyEngine AnyRule). s.model) begun ∙ ap (λ (m : Model). polled m) c.loop-bits.invariant.taken in
+    let short = taken_length ns i (omega arith) in
+    let back = c.in_err-reply.field-0.0 in
+    let infinite = refused_infinite m c.in_ok-poll.poll.address c.from_bits.result back.fault (ap (λ (m : Model). m.pending) waits) (search rules) (omega (arith, ap (λ (m : Model). length m.replies) waits)) c.in_err-reply.ensures.result.0 in
+    rw p.1 (finite_stops ns i c.loop-bits-test.true (ap (λ (v : ℕ). is_finite binary32 v) (sym c.from_bits.ensures) ∙ infinite))
 
-pub loop-i-preserved : goal.loop-i-preserved
-loop-i-preserved c =
+pub loop-bits-preserved : goal.loop-bits-preserved
+loop-bits-preserved c =
     let ns : List ℕ = c.args.replies.now in
-    let f : is_finite binary32 (get_or ns c.loop-i.i 0) ≡ true = search rules in
-    let long : length ns ≡ 288 = search rules in
-    let more =
-    refilled_more ns c.loop-i.i c.args.meter.now.address.number (model c.loop-i.meter) (model c.put_back.new.meter) c.from_bits.result
-    (omega arith) c.loop-i.invariant.0 c.loop-i.invariant.1 (c.put_back.ensures.after c.if-not-put_back.false) c.from_bits.ensures f in
-    (more.0, more.1, c.put_back.ensures.engine ∙ c.loop-i.invariant.2, c.put_back.ensures.rule ∙ c.loop-i.invariant.3)
+    let i : ℕ = c.loop-bits.bits-index in
+    let m = c.poll.new.self.model in
+    let begun = rw c.in_ok-poll.ensures.result.0 at c.poll.ensures.after in
+    let waits = ap (λ (s : Seen AnyEngine AnyRule). s.model) begun ∙ ap (λ (m : Model). polled m) c.loop-bits.invariant.taken in
+    let short = taken_length ns i (omega arith) in
+    let none = c.in_ok-reply.ensures.result.0 in
+    let finite = taken_finite m c.in_ok-poll.poll.address c.from_bits.result (ap (λ (m : Model). m.pending) waits) (search rules) (omega (arith, ap (λ (m : Model). length m.replies) waits)) none in
+    let more = refilled_more ns i c.args.meter.now.model.address m c.reply.new.self.model c.from_bits.result c.loop-bits-test.true c.loop-bits.invariant.finite waits (ap (λ (s : Seen AnyEngine AnyRule). s.model) (rw none at c.reply.ensures.after)) c.from_bits.ensures finite in
+    record { finite = more.0; taken = more.1; engine = search rules; rule = search rules }

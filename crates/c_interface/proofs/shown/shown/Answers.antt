@@ -1,7 +1,4 @@
-use Rattle.std.proofs.Common.{◌≡◌, rules}
-use Rattle.window.specs.Window.{standing}
-use Rattle.window.proofs.Facts.{standing_few, standing_finite}
-use Rattle.meter.specs.Meters.{model}
+use Rattle.std.proofs.Common.{◌≡◌, ◌∙◌, arith, rules}
 use Rattle.c_interface.specs.declared.data.MeterData.{MeterData}
 use Rattle.c_interface.specs.Held.{shown}
 use Rattle.c_interface.proofs.Returning.{each_finite, again_held}
@@ -11,7 +8,8 @@ pub returns : goal.returns
 returns c =
     let d = c.args.numbers.now in
     let m = c.args.meter.now in
-    let a = m.address.valid in
+    let a = c.number.ensures.bound in
+    let at = c.number.ensures.value ∙ c.address.ensures in
     let r : MeterData = record {
       replies = c.replies_of-replies.result;
       standing = c.standing.result;
@@ -20,5 +18,5 @@ returns c =
       rule = d.rule;
       pending = c.pending_of.result;
     } in
-    let is : r ≡ shown d (model m) = search rules in
-    record { is = is; again = again_held d r (model m) c.requires is a.0 a.1 (standing_few m.window) (each_finite (standing m.window) (standing_finite m.window)) }
+    let is : r ≡ shown d m.model = search rules in
+    record { is = is; again = again_held d r m.model c.requires is (omega (arith, at, a.0)) (omega (arith, at, a.1)) (omega (arith, c.standing.ensures.is, c.standing.ensures.few)) (each_finite m.model.replies c.standing.ensures.finite) }
