@@ -8,10 +8,11 @@ use arithmetic::square::square;
 use arithmetic::standing::StandingFlags;
 use engine_choice::{AnyEngine, EngineName};
 use engines::Engine;
-use means::mean::{mean, mean_square};
+use means::average::average;
 use rounding::encoding::Encoding;
 use rounding::round::Answer;
 use rounding::rules::AnyRule;
+use window::average::Average;
 use window::reading::Reading;
 use window::window::Window;
 
@@ -31,10 +32,12 @@ pub struct Bench {
     replies: Replies,
 }
 
-fn outcome_of(answer: Answer) -> Outcome {
-    Outcome {
-        bits: answer.encoding.to_bits(),
-        flags: answer.flags.number(),
+impl From<Answer> for Outcome {
+    fn from(answer: Answer) -> Outcome {
+        Outcome {
+            bits: answer.encoding.to_bits(),
+            flags: answer.flags.number(),
+        }
     }
 }
 
@@ -42,28 +45,23 @@ fn quotient_by(engine: &mut AnyEngine, rule: AnyRule, dividend: u32, divisor: u3
     let mut standing = StandingFlags::new();
     let dividend = Encoding::from_bits(dividend);
     let divisor = Encoding::from_bits(divisor);
-    outcome_of(quotient(engine, &rule, &mut standing, dividend, divisor))
+    quotient(engine, &rule, &mut standing, dividend, divisor).into()
 }
 
 fn square_by(rule: AnyRule, operand: u32) -> Outcome {
     let mut standing = StandingFlags::new();
-    outcome_of(square(&rule, &mut standing, Encoding::from_bits(operand)))
+    square(&rule, &mut standing, Encoding::from_bits(operand)).into()
 }
 
-fn mean_by(engine: &mut AnyEngine, rule: AnyRule, window: &Window) -> Option<Outcome> {
+fn average_by(
+    engine: &mut AnyEngine,
+    rule: AnyRule,
+    window: &Window,
+    which: Average,
+) -> Option<Outcome> {
     let mut standing = StandingFlags::new();
-    match mean(window, engine, &rule, &mut standing) {
-        Ok(answer) => Some(outcome_of(answer)),
-        Err(_) => None,
-    }
-}
-
-fn mean_square_by(engine: &mut AnyEngine, rule: AnyRule, window: &Window) -> Option<Outcome> {
-    let mut standing = StandingFlags::new();
-    match mean_square(window, engine, &rule, &mut standing) {
-        Ok(answer) => Some(outcome_of(answer)),
-        Err(_) => None,
-    }
+    let answer = average(window, which, engine, &rule, &mut standing);
+    answer.ok().map(Outcome::from)
 }
 
 // The product's answer; none where a mean is refused.
@@ -76,15 +74,7 @@ fn answered(
     match question {
         Question::Quotient(dividend, divisor) => Some(quotient_by(engine, rule, dividend, divisor)),
         Question::Square(operand) => Some(square_by(rule, operand)),
-        Question::Mean => mean_by(engine, rule, window),
-        Question::MeanSquare => mean_square_by(engine, rule, window),
-    }
-}
-
-fn is_right(found: Option<Outcome>, wanted: Outcome) -> bool {
-    match found {
-        Some(outcome) => outcome.bits == wanted.bits && outcome.flags == wanted.flags,
-        None => false,
+        Question::Average(which) => average_by(engine, rule, window, which),
     }
 }
 
@@ -104,11 +94,9 @@ fn divided_evenly(engine: &AnyEngine) -> bool {
 impl Bench {
     pub fn new() -> Bench {
         Bench {
-            engines: [
-                AnyEngine::new(EngineName::Digits),
-                AnyEngine::new(EngineName::Radix4),
-                AnyEngine::new(EngineName::Cubic),
-            ],
+            engines: [EngineName::Digits, EngineName::Radix4, EngineName::Cubic].map(
+                AnyEngine::new,
+            ),
             window: Window::new(),
             replies: Replies::new(),
         }
@@ -142,7 +130,7 @@ impl Bench {
         let mut count = 0;
         for engine in self.engines.iter_mut() {
             let found = answered(engine, rule, &self.window, question);
-            count = more(count, !is_right(found, wanted));
+            count = more(count, found != Some(wanted));
         }
         count
     }

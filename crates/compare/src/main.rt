@@ -19,8 +19,9 @@ use crate::questions::Question;
 use crate::random::Random;
 use crate::tally::Tally;
 use std::io;
+use window::average::Average;
 
-#[derive(Clone, Copy)]
+#[derive(Clone, Copy, Default)]
 struct Tallies {
     quotients: Tally,
     squares: Tally,
@@ -30,8 +31,11 @@ struct Tallies {
 
 impl Tallies {
     fn compare_means(&mut self, bench: &mut Bench) {
-        bench.compare(&mut self.means, Question::Mean);
-        bench.compare(&mut self.mean_squares, Question::MeanSquare);
+        bench.compare(&mut self.means, Question::Average(Average::Mean));
+        bench.compare(
+            &mut self.mean_squares,
+            Question::Average(Average::MeanSquare),
+        );
     }
 
     // Fills a window and compares; then replies come and go at both ends, and it is compared again.
@@ -87,13 +91,7 @@ fn print_tally(rt: &HostRuntime, name: &str, tally: &Tally) -> io::Result<()> {
 }
 
 fn main(rt: HostRuntime) -> io::Result<()> {
-    let empty = Tally::new();
-    let mut tallies = Tallies {
-        quotients: empty,
-        squares: empty,
-        means: empty,
-        mean_squares: empty,
-    };
+    let mut tallies = Tallies::default();
     tallies.compare(&mut Bench::new(), &mut Random::new());
     print_tally(&rt, "quotients", &tallies.quotients)?;
     print_tally(&rt, "squares", &tallies.squares)?;

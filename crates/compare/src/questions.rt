@@ -1,23 +1,19 @@
 // What is asked of both sides, and what the reference and the machine answer.
-use crate::reference::{Exact, INFINITE, Outcome, Place, SIGN, chosen, scaled};
+use crate::reference::{Exact, INFINITE, INVALID, Outcome, Place, SIGN, ZERO_DIVIDE, scaled};
 use crate::replies::Replies;
 use crate::wide::Wide;
 use rounding::rules::AnyRule;
 use std::num::{f32_from_bits_with_nan, f32_to_bits_with_nan};
+use window::average::Average;
 
 const QUIET: u32 = 0x7fc0_0000;
-
-const INVALID: u8 = 1;
-
-const ZERO_DIVIDE: u8 = 2;
 
 // The operands are encodings; means are of the replies that stand.
 #[derive(Clone, Copy)]
 pub enum Question {
     Quotient(u32, u32),
     Square(u32),
-    Mean,
-    MeanSquare,
+    Average(Average),
 }
 
 // A value in its place, to be rounded under each rule, or one answer for all.
@@ -30,14 +26,16 @@ pub enum Expected {
 impl Expected {
     pub fn under(&self, rule: AnyRule) -> Outcome {
         match self {
-            Expected::Value(exact, place) => chosen(rule, exact.negative, *place),
+            Expected::Value(_, place) => place.chosen(rule),
             Expected::Fixed(outcome) => *outcome,
         }
     }
 }
 
-fn value(exact: Exact) -> Expected {
-    Expected::Value(exact, exact.placed())
+impl From<Exact> for Expected {
+    fn from(exact: Exact) -> Expected {
+        Expected::Value(exact, exact.placed())
+    }
 }
 
 fn fixed(bits: u32, flags: u8) -> Expected {
@@ -66,8 +64,8 @@ fn quotient(dividend: u32, divisor: u32) -> Expected {
     if above >= INFINITE || below >= INFINITE || below == 0 {
         return special_quotient(above, below, sign);
     }
-    let one = Wide::new(1);
-    value(Exact {
+    let one = Wide::from(1);
+    Expected::from(Exact {
         negative: sign != 0,
         above: scaled(&one, above).doubled(149),
         below: scaled(&one, below),
@@ -79,8 +77,8 @@ fn square(operand: u32) -> Expected {
     if size >= INFINITE {
         return fixed(if size == INFINITE { INFINITE } else { QUIET }, 0);
     }
-    let one = Wide::new(1);
-    value(Exact {
+    let one = Wide::from(1);
+    Expected::from(Exact {
         negative: false,
         above: scaled(&scaled(&one, size), size),
         below: one.doubled(149),
@@ -91,8 +89,8 @@ pub fn due(question: Question, replies: &Replies) -> Expected {
     match question {
         Question::Quotient(dividend, divisor) => quotient(dividend, divisor),
         Question::Square(operand) => square(operand),
-        Question::Mean => value(replies.mean()),
-        Question::MeanSquare => value(replies.mean_square()),
+        Question::Average(Average::Mean) => Expected::from(replies.mean()),
+        Question::Average(Average::MeanSquare) => Expected::from(replies.mean_square()),
     }
 }
 
@@ -107,6 +105,6 @@ pub fn by_machine(question: Question) -> Option<u32> {
             let number = f32_from_bits_with_nan(operand);
             Some(f32_to_bits_with_nan(number * number))
         }
-        Question::Mean | Question::MeanSquare => None,
+        Question::Average(_) => None,
     }
 }

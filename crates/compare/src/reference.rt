@@ -11,6 +11,11 @@ pub const INFINITE: u32 = 0x7f80_0000;
 
 const HIDDEN: u32 = 0x0080_0000;
 
+// Flags are plain numbers here: the numbers are what is compared, and a type for them would be the product's once more.
+pub const INVALID: u8 = 1;
+
+pub const ZERO_DIVIDE: u8 = 2;
+
 pub const OVERFLOW: u8 = 4;
 
 pub const UNDERFLOW: u8 = 8;
@@ -18,7 +23,7 @@ pub const UNDERFLOW: u8 = 8;
 pub const INEXACT: u8 = 16;
 
 // An encoding with its flags.
-#[derive(Clone, Copy)]
+#[derive(Clone, Copy, PartialEq, Eq)]
 pub struct Outcome {
     pub bits: u32,
     pub flags: u8,
@@ -32,14 +37,15 @@ pub struct Exact {
     pub below: Wide,
 }
 
-// Where an exact value lies: the greatest size not above it, whether that is the value itself, and how the value compares with the
-// middle between that size and the next. It is tiny below the smallest normal number.
+// Where an exact value lies: on which side of zero, the greatest size not above it, whether that is the value itself, and how the
+// value compares with the middle between that size and the next. It is tiny below the smallest normal number.
 #[derive(Clone, Copy)]
 pub struct Place {
-    pub low: u32,
-    pub exact: bool,
+    negative: bool,
+    low: u32,
+    exact: bool,
     pub middle: Ordering,
-    pub tiny: bool,
+    tiny: bool,
 }
 
 // A number times what a size is worth.
@@ -57,14 +63,11 @@ impl Exact {
     // Bit by bit from the top.
     fn low(&self) -> u32 {
         let mut low = 0;
-        let mut bit: u32 = 0x4000_0000;
-        for _ in 0..31 {
-            let next = low | bit;
-            let reached = scaled(&self.below, next).against(&self.above) != Ordering::Greater;
-            if next <= INFINITE && reached {
+        for bit in (0u32..31).rev() {
+            let next = low | 1 << bit;
+            if next <= INFINITE && scaled(&self.below, next) <= self.above {
                 low = next;
             }
-            bit /= 2;
         }
         low
     }
@@ -74,68 +77,64 @@ impl Exact {
         let least = scaled(&self.below, low);
         let sum = least.plus(&scaled(&self.below, low.wrapping_add(1)));
         Place {
+            negative: self.negative,
             low,
-            exact: least.against(&self.above) == Ordering::Equal,
-            middle: self.above.doubled(1).against(&sum),
-            tiny: self.above.against(&self.below.doubled(23)) == Ordering::Less,
+            exact: least == self.above,
+            middle: self.above.doubled(1).cmp(&sum),
+            tiny: self.above < self.below.doubled(23),
         }
     }
 }
 
-// Whether the rule goes away from zero wherever it can.
-fn is_outward(rule: AnyRule, negative: bool) -> bool {
-    match rule {
-        AnyRule::Up => !negative,
-        AnyRule::Down => negative,
-        _ => false,
+impl Place {
+    // Whether the rule goes away from zero wherever it can.
+    fn is_outward(&self, rule: AnyRule) -> bool {
+        match rule {
+            AnyRule::Up => !self.negative,
+            AnyRule::Down => self.negative,
+            _ => false,
+        }
     }
-}
 
-// The chosen size, before an overflow is seen to.
-fn chosen_size(rule: AnyRule, negative: bool, place: Place) -> u32 {
-    let next = place.low.wrapping_add(1);
-    let even = if place.low % 2 == 0 { place.low } else { next };
-    let outward = is_outward(rule, negative);
-    match (rule, place.middle) {
-        (AnyRule::Even, Ordering::Equal) => even,
-        (AnyRule::Away, Ordering::Equal) => next,
-        (AnyRule::Even | AnyRule::Away, Ordering::Greater) => next,
-        _ => if outward && !place.exact {
-            next
-        } else {
-            place.low
-        },
+    // The chosen size, before an overflow is seen to.
+    fn size(&self, rule: AnyRule) -> u32 {
+        let next = self.low.wrapping_add(1);
+        let even = if self.low % 2 == 0 { self.low } else { next };
+        match (rule, self.middle) {
+            (AnyRule::Even, Ordering::Equal) => even,
+            (AnyRule::Away, Ordering::Equal) => next,
+            (AnyRule::Even | AnyRule::Away, Ordering::Greater) => next,
+            _ if self.is_outward(rule) && !self.exact => next,
+            _ => self.low,
+        }
     }
-}
 
-fn overflow_size(rule: AnyRule, negative: bool) -> u32 {
-    match rule {
-        AnyRule::Even | AnyRule::Away => INFINITE,
-        _ => if is_outward(rule, negative) {
-            INFINITE
-        } else {
-            INFINITE - 1
-        },
+    fn overflow_size(&self, rule: AnyRule) -> u32 {
+        match rule {
+            AnyRule::Even | AnyRule::Away => INFINITE,
+            _ if self.is_outward(rule) => INFINITE,
+            _ => INFINITE - 1,
+        }
     }
-}
 
-pub fn chosen(rule: AnyRule, negative: bool, place: Place) -> Outcome {
-    let size = chosen_size(rule, negative, place);
-    let sign = if negative { SIGN } else { 0 };
-    if size >= INFINITE {
-        return Outcome {
-            bits: sign | overflow_size(rule, negative),
-            flags: OVERFLOW | INEXACT,
+    pub fn chosen(&self, rule: AnyRule) -> Outcome {
+        let size = self.size(rule);
+        let sign = if self.negative { SIGN } else { 0 };
+        if size >= INFINITE {
+            return Outcome {
+                bits: sign | self.overflow_size(rule),
+                flags: OVERFLOW | INEXACT,
+            };
+        }
+        let flags = match (self.exact, self.tiny) {
+            (true, _) => 0,
+            (false, true) => UNDERFLOW | INEXACT,
+            (false, false) => INEXACT,
         };
-    }
-    let flags = match (place.exact, place.tiny) {
-        (true, _) => 0,
-        (false, true) => UNDERFLOW | INEXACT,
-        (false, false) => INEXACT,
-    };
-    Outcome {
-        bits: sign | size,
-        flags,
+        Outcome {
+            bits: sign | size,
+            flags,
+        }
     }
 }
 
@@ -146,12 +145,11 @@ pub fn rounded_twice(exact: &Exact) -> u32 {
         above: exact.above.doubled(200),
         below: exact.below,
     };
-    let first = chosen_size(AnyRule::Even, false, raised.placed());
-    let one = Wide::new(1);
+    let one = Wide::from(1);
     let lowered = Exact {
         negative: false,
-        above: scaled(&one, first),
+        above: scaled(&one, raised.placed().size(AnyRule::Even)),
         below: one.doubled(200),
     };
-    chosen_size(AnyRule::Even, false, lowered.placed())
+    lowered.placed().size(AnyRule::Even)
 }

@@ -1,18 +1,15 @@
 // The standing replies as a plain list, with sums worked out anew each time.
 use crate::reference::{Exact, SIGN, scaled};
 use crate::wide::Wide;
-use std::cmp::Ordering;
+use arrayvec::ArrayVec;
 
-const ROOM: usize = 288;
-
-#[derive(Clone, Copy)]
+#[derive(Drop)]
 pub struct Replies {
-    list: [u32; 288],
-    count: usize,
+    list: ArrayVec<u32, 288>,
 }
 
 // The sums of the replies of either sign, and of all squares.
-#[derive(Clone, Copy)]
+#[derive(Clone, Copy, Default)]
 struct Sums {
     positive: Wide,
     negative: Wide,
@@ -22,7 +19,7 @@ struct Sums {
 impl Sums {
     fn add(&mut self, bits: u32) {
         let size = bits % SIGN;
-        let worth = scaled(&Wide::new(1), size);
+        let worth = scaled(&Wide::from(1), size);
         if bits < SIGN {
             self.positive = self.positive.plus(&worth);
         } else {
@@ -34,36 +31,27 @@ impl Sums {
 
 impl Replies {
     pub fn new() -> Replies {
-        let list = [0; 288];
-        Replies { list, count: 0 }
+        Replies {
+            list: ArrayVec::new(),
+        }
     }
 
+    // Where there is room.
     pub fn push(&mut self, bits: u32) {
-        if self.count < ROOM {
-            self.list[self.count] = bits;
-            self.count += 1;
-        }
+        let _ = self.list.try_push(bits);
     }
 
     pub fn drop_first(&mut self) {
-        for i in 1..ROOM {
-            self.list[i - 1] = self.list[i];
-        }
-        self.count = self.count.saturating_sub(1);
+        let _ = self.list.pop_at(0);
     }
 
     pub fn drop_last(&mut self) {
-        self.count = self.count.saturating_sub(1);
+        let _ = self.list.pop();
     }
 
     fn sums(&self) -> Sums {
-        let nothing = Wide::new(0);
-        let mut sums = Sums {
-            positive: nothing,
-            negative: nothing,
-            squares: nothing,
-        };
-        for bits in self.list.iter().take(self.count) {
+        let mut sums = Sums::default();
+        for bits in &self.list {
             sums.add(*bits);
         }
         sums
@@ -71,22 +59,21 @@ impl Replies {
 
     // How many there are.
     fn number(&self) -> Wide {
-        Wide::new(self.count.min(ROOM) as u32)
+        Wide::from(self.list.len() as u32)
     }
 
     pub fn mean(&self) -> Exact {
         let sums = self.sums();
-        let negative = sums.positive.against(&sums.negative) == Ordering::Less;
+        let negative = sums.positive < sums.negative;
         let above = if negative {
             sums.negative.minus(&sums.positive)
         } else {
             sums.positive.minus(&sums.negative)
         };
-        let below = self.number();
         Exact {
             negative,
             above,
-            below,
+            below: self.number(),
         }
     }
 

@@ -3,7 +3,7 @@ use crate::questions::Expected;
 use crate::reference::{INEXACT, OVERFLOW, Outcome, SIGN, UNDERFLOW, rounded_twice};
 use std::cmp::Ordering;
 
-#[derive(Clone, Copy)]
+#[derive(Clone, Copy, Default)]
 pub struct Tally {
     pub questions: u32,
     // Without an exact value.
@@ -34,22 +34,6 @@ pub fn more(count: u32, holds: bool) -> u32 {
 }
 
 impl Tally {
-    pub fn new() -> Tally {
-        Tally {
-            questions: 0,
-            special: 0,
-            ties: 0,
-            inexact: 0,
-            tiny: 0,
-            overflowed: 0,
-            twice: 0,
-            cut: 0,
-            overshot: 0,
-            differences: 0,
-            machine: 0,
-        }
-    }
-
     pub fn count(&mut self, expected: &Expected, even: Outcome) {
         let tiny = even.flags & UNDERFLOW != 0;
         self.questions = more(self.questions, true);

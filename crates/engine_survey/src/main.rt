@@ -1,4 +1,4 @@
-// Runs many pairs through all three engines. Their estimates may differ inside the band; their whole quotients never do, and
+// Puts many questions to all three engines. Their estimates may differ inside the band; their whole quotients never do, and
 // agree with the machine's own division, and so their rounded quotients never do either.
 #![tactic(auto)]
 
@@ -17,10 +17,9 @@ fn surveyed(count: u32) -> Tally
 {
     let mut random = Random::new();
     let mut engines = Three::new();
-    let mut tally = Tally::new();
+    let mut tally = Tally::default();
     for _done in 0u32..count {
-        let pair = random.pair();
-        tally = engines.compared(tally, pair);
+        tally = engines.compared(tally, random.question());
     }
     tally
 }

@@ -1,12 +1,7 @@
-// Pairs in an engine's range, from a fixed generator that leans to the edges.
-ghost use Rattle.std.specs.Prelude.{◌≡◌, ◌*◌, ◌^◌, ◌<◌, ◌≤◌, true};
-ghost use Rattle.engines.specs.Band.{in_range};
+// Questions to engines, from a fixed generator that leans to the edges.
+ghost use Rattle.std.specs.Prelude.{◌*◌, ◌^◌, ◌<◌, ◌≤◌};
 
-#[derive(Clone, Copy)]
-pub struct Pair {
-    pub divisor: u32,
-    pub dividend: u64,
-}
+use engines::Question;
 
 #[derive(Drop)]
 pub struct Random {
@@ -29,12 +24,10 @@ impl Random {
         (self.state >> 33) as u32
     }
 
-    pub fn pair(&mut self) -> Pair
-        ensures { in_range result.divisor result.dividend ≡ true }
-    {
+    pub fn question(&mut self) -> Question {
         let divisor = self.divisor();
         let dividend = divisor as u64 * 16777216 + self.excess(divisor);
-        Pair { divisor, dividend }
+        Question::new(divisor, dividend).unwrap()
     }
 
     // Near the least divisor, near the greatest, near a place where an engine changes its way, or anywhere.
@@ -52,6 +45,7 @@ impl Random {
     }
 
     // What the dividend has above its least value: little, nearly all, about a multiple of the divisor, or anything.
+    #[tactic(auto, using(std::proofs::lemmas::Nat::rows))]
     fn excess(&mut self, divisor: u32) -> u64
         requires { 2 ^ 23 ≤ divisor }
         ensures { result < 16777216 * divisor }

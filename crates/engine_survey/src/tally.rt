@@ -1,23 +1,19 @@
 // The three engines side by side, and what they are found to do.
-ghost use Rattle.std.specs.Prelude.{◌≡◌, true};
-ghost use Rattle.engines.specs.Band.{in_range};
+ghost use Rattle.std.specs.Prelude.{◌≡◌};
 ghost use Rattle.arithmetic.specs.Defined.{quotient};
 ghost use Rattle.rounding.specs.Format.{binary32};
 ghost use Rattle.rounding.specs.Rules.{even_rule};
 
-use crate::pairs::Pair;
 use arithmetic::quotient::quotient;
 use arithmetic::standing::StandingFlags;
-use cubic::Cubic;
-use engines::digits::Digits;
-use engines::{Engine, whole_quotient};
-use radix4::Radix4;
+use engine_choice::{AnyEngine, EngineName};
+use engines::{Engine, Question, whole_quotient};
 use rounding::encoding::Encoding;
 use rounding::rules::Even;
 
 // How many pairs there were, at how many an engine's estimate was not that of `digits`, by how much at most, and at how many
 // a whole quotient was not that of the machine, or a rounded one not that over `digits`.
-#[derive(Clone, Copy)]
+#[derive(Clone, Copy, Default)]
 pub struct Tally {
     pub pairs: u32,
     pub radix4_estimates: u32,
@@ -27,26 +23,10 @@ pub struct Tally {
     pub rounded: u32,
 }
 
-impl Tally {
-    pub fn new() -> Tally
-        ensures { (result.quotients ≡ 0) × (result.rounded ≡ 0) }
-    {
-        Tally {
-            pairs: 0,
-            radix4_estimates: 0,
-            cubic_estimates: 0,
-            widest: 0,
-            quotients: 0,
-            rounded: 0,
-        }
-    }
-}
-
+// The three engines, `digits` first.
 #[derive(Drop)]
 pub struct Three {
-    digits: Digits,
-    radix4: Radix4,
-    cubic: Cubic,
+    engines: [AnyEngine; 3],
 }
 
 // One more, where `a` and `b` differ.
@@ -67,56 +47,58 @@ fn further(widest: u32, a: u32, b: u32) -> u32 {
 impl Three {
     pub fn new() -> Three {
         Three {
-            digits: Digits::new(),
-            radix4: Radix4::new(),
-            cubic: Cubic::new(),
+            engines: [EngineName::Digits, EngineName::Radix4, EngineName::Cubic].map(
+                AnyEngine::new,
+            ),
         }
     }
 
-    // Puts one pair to all of them: for the estimate, for the whole quotient, and for a quotient of encodings made of it.
-    pub fn compared(&mut self, tally: Tally, pair: Pair) -> Tally
-        requires { in_range pair.divisor pair.dividend ≡ true }
+    // Puts one question to all of them: for the estimate, for the whole quotient, and for a quotient of encodings made of it.
+    pub fn compared(&mut self, tally: Tally, question: Question) -> Tally
         ensures { (result.quotients ≡ tally.quotients) × (result.rounded ≡ tally.rounded) }
     {
-        let digits = self.digits.estimate(pair.divisor, pair.dividend);
-        let radix4 = self.radix4.estimate(pair.divisor, pair.dividend);
-        let cubic = self.cubic.estimate(pair.divisor, pair.dividend);
+        let [digits, radix4, cubic] = self.estimates(question);
         Tally {
             pairs: tally.pairs.saturating_add(1),
             radix4_estimates: counted(tally.radix4_estimates, digits, radix4),
             cubic_estimates: counted(tally.cubic_estimates, digits, cubic),
             widest: further(further(tally.widest, digits, radix4), digits, cubic),
-            quotients: self.quotients(tally.quotients, pair),
-            rounded: self.rounded(tally.rounded, pair),
+            quotients: self.quotients(tally.quotients, question),
+            rounded: self.rounded(tally.rounded, question),
         }
     }
 
+    fn estimates(&mut self, question: Question) -> [u32; 3] {
+        let mut estimates = [0; 3];
+        for (estimate, engine) in estimates.iter_mut().zip(&mut self.engines) {
+            *estimate = engine.estimate(question.divisor(), question.dividend());
+        }
+        estimates
+    }
+
     // One more for each engine whose whole quotient is not the machine's: none, as is proved.
-    fn quotients(&mut self, count: u32, pair: Pair) -> u32
-        requires { in_range pair.divisor pair.dividend ≡ true }
+    fn quotients(&mut self, mut count: u32, question: Question) -> u32
         ensures { result ≡ count }
     {
-        let machine = (pair.dividend / pair.divisor as u64) as u32;
-        let digits = whole_quotient(&mut self.digits, pair.divisor, pair.dividend);
-        let radix4 = whole_quotient(&mut self.radix4, pair.divisor, pair.dividend);
-        let cubic = whole_quotient(&mut self.cubic, pair.divisor, pair.dividend);
-        counted(
-            counted(counted(count, machine, digits), machine, radix4),
-            machine,
-            cubic,
-        )
+        let machine = (question.dividend() / question.divisor() as u64) as u32;
+        for engine in &mut self.engines {
+            let whole = whole_quotient(engine, question.divisor(), question.dividend());
+            count = counted(count, machine, whole);
+        }
+        count
     }
 
     // One more for each engine over which a quotient is rounded otherwise than over `digits`: none, as is proved.
-    fn rounded(&mut self, count: u32, pair: Pair) -> u32
+    fn rounded(&mut self, mut count: u32, question: Question) -> u32
         ensures { result ≡ count }
     {
-        let dividend = Encoding::from_bits((pair.dividend % 4294967296) as u32);
-        let divisor = Encoding::from_bits(pair.divisor.wrapping_mul(2654435761));
-        let digits = rounded_over(&mut self.digits, dividend, divisor);
-        let radix4 = rounded_over(&mut self.radix4, dividend, divisor);
-        let cubic = rounded_over(&mut self.cubic, dividend, divisor);
-        counted(counted(count, digits, radix4), digits, cubic)
+        let dividend = Encoding::from_bits((question.dividend() % 4294967296) as u32);
+        let divisor = Encoding::from_bits(question.divisor().wrapping_mul(2654435761));
+        let wanted = rounded_over(&mut self.engines[0], dividend, divisor);
+        for engine in &mut self.engines[1..] {
+            count = counted(count, wanted, rounded_over(engine, dividend, divisor));
+        }
+        count
     }
 }
 

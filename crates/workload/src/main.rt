@@ -5,51 +5,42 @@
 
 mod rounds;
 
-use crate::rounds::{Kind, Rounds};
+use crate::rounds::{Rounds, named};
 use std::{env, io};
+use window::average::Average;
 
 #[derive(Clone, Copy)]
 struct Plan {
-    kind: Kind,
+    average: Option<Average>,
     standing: u32,
     rounds: u32,
 }
 
-fn number(word: &str) -> u32 {
-    match word.parse::<u32>() {
-        Ok(number) => number,
-        Err(_) => 0,
-    }
+// A number, or 0 for any other word and for none.
+fn number(word: Option<String>) -> u32 {
+    word.and_then(|word| word.parse().ok()).unwrap_or(0)
 }
 
-// The words after the program's own name.
+// From the words after the program's own name.
 fn planned(rt: &HostRuntime) -> io::Result<Plan> {
-    let mut plan = Plan {
-        kind: Kind::Replies,
-        standing: 0,
-        rounds: 0,
-    };
-    for (place, word) in env::args(rt)?.enumerate() {
-        match place {
-            1 => plan.kind = Kind::named(&word),
-            2 => plan.standing = number(&word),
-            3 => plan.rounds = number(&word),
-            _ => {}
-        }
-    }
-    Ok(plan)
+    let mut words = env::args(rt)?.skip(1);
+    Ok(Plan {
+        average: words.next().and_then(|word| named(word.as_str())),
+        standing: number(words.next()),
+        rounds: number(words.next()),
+    })
 }
 
 fn main(rt: HostRuntime) -> io::Result<()> {
     let Plan {
-        kind,
+        average,
         standing,
         rounds,
     } = planned(&rt)?;
     let mut work = Rounds::new();
     work.fill(standing);
     for round in 0..rounds {
-        work.turn(kind, round);
+        work.turn(average, round);
     }
     let checksum = work.checksum();
     println!(rt; "{standing} replies, {rounds} rounds: {checksum}")

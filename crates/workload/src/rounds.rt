@@ -1,31 +1,19 @@
 // Rounds of calls on one window, over the cubic engine and under ties to even.
 use arithmetic::standing::StandingFlags;
 use cubic::Cubic;
-use means::mean::{mean, mean_square};
+use means::average::average;
 use rounding::encoding::Encoding;
 use rounding::rules::Even;
+use window::average::Average;
 use window::reading::Reading;
 use window::window::Window;
 
-#[derive(Clone, Copy)]
-pub enum Kind {
-    // The oldest reply goes and a new one comes.
-    Replies,
-    // The same, and then a mean.
-    Means,
-    // The same, and then a mean square.
-    MeanSquares,
-}
-
-impl Kind {
-    pub fn named(word: &str) -> Kind {
-        if word == "means" {
-            Kind::Means
-        } else if word == "mean-squares" {
-            Kind::MeanSquares
-        } else {
-            Kind::Replies
-        }
+// The average that a word names; any other word names none.
+pub fn named(word: &str) -> Option<Average> {
+    match word {
+        "means" => Some(Average::Mean),
+        "mean-squares" => Some(Average::MeanSquare),
+        _ => None,
     }
 }
 
@@ -67,21 +55,20 @@ impl Rounds {
         }
     }
 
-    // One reply goes and one comes; then the call of this kind.
-    pub fn turn(&mut self, kind: Kind, round: u32) {
+    // The oldest reply goes and a new one comes; then the average, where there is one.
+    pub fn turn(&mut self, asked: Option<Average>, round: u32) {
         let _ = self.window.retire();
         self.take_in(round);
-        let answer = match kind {
-            Kind::Replies => return,
-            Kind::Means => mean(&self.window, &mut self.engine, &Even, &mut self.flags),
-            Kind::MeanSquares => mean_square(
-                &self.window,
-                &mut self.engine,
-                &Even,
-                &mut self.flags,
-            ),
+        let Some(which) = asked else {
+            return;
         };
-        if let Ok(answer) = answer {
+        if let Ok(answer) = average(
+            &self.window,
+            which,
+            &mut self.engine,
+            &Even,
+            &mut self.flags,
+        ) {
             self.checksum = self.checksum.rotate_left(1) ^ answer.encoding.to_bits();
         }
     }
