@@ -1,8 +1,0 @@
-use Rattle.std.proofs.Common.{◌≡◌, ◌+◌, ◌≤◌}
-use Rattle.meter.specs.Meters.{model}
-use Rattle.session.proofs.session.polls.repeat.Given as goal
-
--- the meter stays, and each turn is one attempt more
-abbrev pub invariant-loop : goal.invariant-loop
-invariant-loop l =
-    (model l.meter ≡ model l.initial.meter) × (l.meter.engine ≡ l.initial.meter.engine) × (l.meter.rule ≡ l.initial.meter.rule) × (l.poll.address ≡ l.initial.poll.address) × (l.poll.attempt ≡ l.counter + 1) × (l.poll.attempt ≤ 3)
