@@ -1,4 +1,4 @@
-use Rattle.std.proofs.Common.{◌≡◌, ℕ, false, List, length, sym, ap, ◌∙◌, arith, rules}
+use Rattle.std.proofs.Common.{ℕ, List, length, sym, ap, ◌∙◌, arith, rules}
 use Rattle.std.proofs.lemmas.Result.{err_from_is_err_and}
 use Rattle.rounding.specs.Format.{binary32, is_finite}
 use Rattle.rounding.specs.declared.rules.AnyRule.{AnyRule}
@@ -12,12 +12,6 @@ use Rattle.c_interface.proofs.restored.refill.Goals as goal
 pub loop-bits-init : goal.loop-bits-init
 unfolding all_finite
 loop-bits-init c = search rules
-
-pub returns-in_err-poll : goal.returns-in_err-poll
-returns-in_err-poll c =
-    let rest : c.loop-bits.meter.model.pending ≡ false = ap (λ (m : Model). m.pending) c.loop-bits.invariant.taken in
-    let k = rw rest at c.in_err-poll.ensures.result in
-    absurd (cc)
 
 pub returns-in_err-reply-clause-after : goal.returns-in_err-reply-clause-after
 returns-in_err-reply-clause-after c =

@@ -1,20 +1,10 @@
-use Rattle.std.proofs.Common.{ℕ, ◌*◌, ◌^◌, ◌<◌, ◌∙◌, arith, ◌≤◌}
-use Rattle.std.proofs.lemmas.Grind.{common_steps}
+use Rattle.std.proofs.Common.{ℕ, ◌*◌, ◌^◌, ◌<◌, ◌∙◌}
 use Rattle.std.proofs.lemmas.Nat.{pow_pos, mul-le}
 use Rattle.rounding.proofs.Truncations.{near_like}
 use Rattle.places.specs.Asking.{Scales}
-use Rattle.arithmetic.proofs.Quotients.{ranged}
 use Rattle.window.proofs.Facts.{in_range_from}
 use Rattle.means.proofs.Sums.{sum_near}
 use Rattle.means.proofs.answering.divide_sum.Goals as goal
-
-pub unwrap-value-requires : goal.unwrap-value-requires
-unwrap-value-requires g c =
-    let q = c.args.ask.question in
-    let r = ranged q.divisor q.dividend (in_range_from q.divisor q.dividend q.normal q.band) in
-    let e = rw (c.divisor.ensures.value, c.dividend.ensures.value) at c.whole_quotient-quotient.ensures.value in
-    let long : 16777216 ≤ c.whole_quotient-quotient.result = omega (arith, r.long, r.is, e) in
-    grind (arith, common_steps)
 
 pub returns : goal.returns
 returns g c =
