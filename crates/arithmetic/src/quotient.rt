@@ -93,7 +93,7 @@ impl Division {
         round(rule, self.is_negative(), value)
     }
 
-    // The quotient, before its flags are gathered.
+    // The quotient, before its flags are gathered. The contract is the defined answer itself, as it is in `quotient`.
     fn answer<E: Engine, R: Rule>(self, engine: &mut E, rule: &R) -> Answer
         ensures answer { Gives result (quotient binary32 (R.meaning rule.now) self.dividend.bits self.divisor.bits) }
         ensures asked { E.logged engine.new ≡ quotient_log binary32 (E.logged engine.old) self.dividend.bits self.divisor.bits }
@@ -106,7 +106,7 @@ impl Division {
 }
 
 // The quotient under a rule; the flags that it raises are gathered too. Engine, rule and record are lent one by one: a struct of two borrows
-// and a shared one would be made at each call and say no more.
+// and a shared one would be made at each call and say no more. The two operands are a division's arguments, as every caller has them.
 pub fn quotient<E: Engine, R: Rule>(
     engine: &mut E,
     rule: &R,

@@ -16,6 +16,7 @@ pub(crate) struct Started {
 }
 
 impl Started {
+    // By `new` and not by From, since a reciprocal is added to the question.
     pub(crate) fn new(question: Question) -> Started
         ensures { result.question ≡ question }
     {

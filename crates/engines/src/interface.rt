@@ -12,7 +12,8 @@ pub trait Engine {
     // The engine's meaning. Two engines of one meaning may still answer differently inside the band.
     ghost logged: { Self → Log };
 
-    // An estimate of 64 times the quotient, never below it and less than 64 above; 0 for a pair out of range.
+    // An estimate of 64 times the quotient, never below it and less than 64 above; 0 for a pair out of range. Two numbers and no Question, since any
+    // pair may be asked, by a rule of the project.
     fn estimate(&mut self, divisor: u32, dividend: u64) -> u32
         ensures value { Estimate divisor dividend result }
         ensures after { logged self.new ≡ noted (logged self.old) divisor dividend };

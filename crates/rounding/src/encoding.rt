@@ -15,7 +15,7 @@ pub struct Encoding {
 }
 
 impl Encoding {
-    // Constants, by the names that std gives them for its own floats.
+    // Constant functions and no From: by the names that std gives to just this for its own floats.
     pub const fn from_bits(bits: u32) -> Encoding
         ensures { result.bits ≡ bits }
     {
