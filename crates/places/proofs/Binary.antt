@@ -4,7 +4,8 @@ use native.Mathlib.Nat.{pow-succ', pow-le-pow_right}
 use Rattle.std.proofs.lemmas.List.{take_more, take_more_set, take_all, take_at, drop_at, length-take, length-take-le, length-set, length-append, length-drop, length-replicate}
 use borrow.Rule.Slice.PartMut.{put_mid}
 use Rattle.std.proofs.lemmas.Slice.{take-put_mid}
-use Rattle.std.proofs.lemmas.Nat.{pow-add}
+use Rattle.std.proofs.lemmas.Nat.{pow_pos, pow-add}
+use lib.Seq.{drop-drop}
 use Rattle.std.proofs.lemmas.Bool.{cases_eq, eq-eqb, ne_eqb}
 use Rattle.places.specs.Digits.{bit, bits_value}
 
@@ -88,6 +89,30 @@ carrying_more n ds bs i j k m c s c' w h few long km jm e =
       omega (arith, h.1, v, ap (λ (z : ℕ). z * 2 ^ i) e, ap (λ (z : ℕ). c' * 2 ^ z) jm, ap (λ (p : ℕ). c' * p) (pow-add 2 i m)),
     )
 
+no_part : (a b p : ℕ) → 0 < p → a + p * b ≡ 0 → b ≡ 0
+no_part a zero p some e = refl
+no_part a (suc b) p some e = absurd (omega (arith, e))
+
+-- digits that are all 0, and those above a place where they are
+pub value_none : (n : ℕ) → bits_value (replicate n false) ≡ 0
+unfolding bits_value
+value_none zero = refl
+value_none (suc n) = omega (arith, value_none n)
+
+pub none_above : (xs : List Bool) (i m : ℕ) → bits_value (drop i xs) ≡ 0 → bits_value (drop (i + m) xs) ≡ 0
+none_above xs i m e =
+    let ys : List Bool = drop i xs in
+    let z : bits_value (drop m ys) ≡ 0 = no_part (bits_value (take m ys)) (bits_value (drop m ys)) (2 ^ m) (pow_pos m) (sym (value_split m ys) ∙ e) in
+    ap bits_value (sym (drop-drop m i xs)) ∙ z
+
+pub none_above_more : (ds bs : List Bool) (i j k m : ℕ) → i ≤ length ds → length bs ≡ m → k ≡ m → j ≡ i + m → bits_value (drop i ds) ≡ 0 → bits_value (drop j (put_mid i k ds bs)) ≡ 0
+none_above_more ds bs i j k m within long km jm e =
+    let rest : List Bool = drop k (drop i ds) in
+    let front : drop i (put_mid i k ds bs) ≡ bs ++ rest = drop_at (take i ds) (bs ++ rest) i (length-take-le i ds within) in
+    let back : drop m (bs ++ rest) ≡ rest = drop_at bs rest m long in
+    let both : drop j (put_mid i k ds bs) ≡ rest = ap (λ (n : ℕ). drop n (put_mid i k ds bs)) jm ∙ sym (drop-drop m i (put_mid i k ds bs)) ∙ ap (λ (xs : List Bool). drop m xs) front ∙ back in
+    ap bits_value (both ∙ drop-drop k i ds) ∙ none_above ds i k e
+
 nothing_over : (v c p s : ℕ) → v + c * p ≡ s → s < p → v ≡ s
 nothing_over v zero p s e lt = omega (arith, e)
 nothing_over v (suc c) p s e lt = absurd (omega (arith, e))
@@ -96,8 +121,11 @@ pub carrying_all : (n : ℕ) (ds : List Bool) (i c s : ℕ) → i ≡ n → Carr
 carrying_all n ds i c s e h =
     ap (λ (xs : List Bool). bits_value xs + c * 2 ^ n) (sym (take_all n ds (omega (arith, h.0)))) ∙ subst (λ (m : ℕ). bits_value (take m ds) + c * 2 ^ m ≡ s) e h.1
 
-pub carrying_out : (ds : List Bool) (i c s : ℕ) → i ≡ 576 → Carrying 576 ds i c s → s < 2 ^ 576 → bits_value ds ≡ s
-carrying_out ds i c s e h lt = nothing_over (bits_value ds) c (2 ^ 576) s (carrying_all 576 ds i c s e h) lt
+-- all is written below a place that the sum does not reach
+pub carrying_out : (n : ℕ) (ds : List Bool) (i c s : ℕ) → Carrying n ds i c s → bits_value (drop i ds) ≡ 0 → s < 2 ^ i → bits_value ds ≡ s
+carrying_out n ds i c s h above lt =
+    let low : bits_value (take i ds) ≡ s = nothing_over (bits_value (take i ds)) c (2 ^ i) s h.1 lt in
+    value_split i ds ∙ ap (λ (v : ℕ). bits_value (take i ds) + 2 ^ i * v) above ∙ omega (arith, low)
 
 -- one digit written anew
 pub value_write : (xs : List Bool) (i : ℕ) (b : Bool) → i < length xs → bits_value (set xs i b) + bit (get_or xs i false) * 2 ^ i ≡ bits_value xs + bit b * 2 ^ i

@@ -1,9 +1,11 @@
 -- Words at rising places: bounds, words past the last, sums of two.
-use Rattle.std.proofs.Common.{◌≡◌, ℕ, zero, suc, ◌+◌, ◌-◌, ◌*◌, ◌/◌, ◌^◌, ◌<◌, ◌≤◌, false, cond, eqb, ◌≢◌, List, ℤ, length, get_or, set, refl, ap, ◌∙◌, subst, lt_of_le_of_lt, ⊎_elim, mul-le-mul_right, mul-le-mul_left, arith, lit<}
+use Rattle.std.proofs.Common.{◌≡◌, ℕ, zero, suc, ◌+◌, ◌-◌, ◌*◌, ◌/◌, ◌^◌, ◌<◌, ◌≤◌, false, cond, eqb, ◌≢◌, List, [], ◌∷◌, ℤ, length, get_or, IfSome, refl, ap, ◌∙◌, subst, lt_of_le_of_lt, ⊎_elim, mul-le-mul_right, mul-le-mul_left, arith, lit<}
 use native.Mathlib.Nat.{pow-le-pow_right}
+use Rattle.std.proofs.lemmas.Nat.{pow_pos, pow-add}
 use Rattle.std.proofs.lemmas.Bool.{cases_eq, eq-eqb, ne_eqb}
-use Rattle.std.proofs.lemmas.List.{length-set, get_or-set_same, get_or-set_other}
-use Rattle.places.specs.Spread.{spread, ups, downs}
+use borrow.Author.Differences.{down}
+use Rattle.std.specs.List.{slice_get}
+use Rattle.places.specs.Spread.{spread, ups, downs, raised, taken}
 use Rattle.places.proofs.Binary.{pow_next}
 
 -- the word of field m + 1
@@ -66,50 +68,48 @@ spread_lifted r d u each few = (
   lt_of_le_of_lt (spread_small 1 r 18446744073709551615 (omega arith) 253 (λ k lt. omega (arith, few k (omega arith)))) (lit< tt),
 )
 
--- the words below f were raised by 2^63
-pub record Raised (ws : List ℤ) (rs : List ℕ) (f : ℕ) : Type 0 where
-  pub long : length rs ≡ 255
-  pub each : (k : ℕ) → k < f → get_or rs k 0 + downs ws k ≡ ups ws k + 2 ^ 63
+-- words as they are taken: none past the last one, plain ones as they are, and signed ones raised
+pub taken_past : {A : Type 0} (worth : A → ℕ) (ws : List A) (k : ℕ) → length ws ≤ k → taken worth ws k ≡ 0
+taken_past worth [] k past = refl
+taken_past worth (w ∷ ws) zero past = absurd (omega arith)
+taken_past worth (w ∷ ws) (suc k) past = taken_past worth ws k (omega arith)
 
-pub raised_more : (ws : List ℤ) (rs : List ℕ) (f r : ℕ) → f < 255 → Raised ws rs f → r + downs ws f ≡ ups ws f + 2 ^ 63 → Raised ws (set rs f r) (f + 1)
-raised_more ws rs f r lt t here =
-    let within : f < length rs = omega (arith, t.long) in
-    record {
-      long = length-set rs f r ∙ t.long;
-      each =
-          λ k le.
-          ⊎_elim
-          (λ (e : k ≡ f). rw e (rw (get_or-set_same rs f r 0 within) here))
-          (λ (ne : k ≢ f). rw (get_or-set_other rs f k r 0 ne) (t.each k (omega arith)))
-          (cases_eq k f);
-    }
+pub taken_plain : (ws : List ℕ) (k : ℕ) → taken (λ w. w) ws k ≡ get_or ws k 0
+taken_plain [] k = refl
+taken_plain (w ∷ ws) zero = refl
+taken_plain (w ∷ ws) (suc k) = taken_plain ws k
 
--- where the words rise by 1 or 2 places, the last place is reached past the last word
-pub last_place : (step field : ℕ) → 0 < step → step ≤ 2 → field ≡ 576 / step → (step * field ≡ 576) × (255 ≤ field)
+pub taken_raised : (ws : List ℤ) (k : ℕ) → k < length ws → IfSome (slice_get ws k) (λ w. down w ≤ 2 ^ 63) → taken raised ws k + downs ws k ≡ ups ws k + 2 ^ 63
+taken_raised [] k within fair = absurd (omega arith)
+taken_raised (w ∷ ws) zero within fair = omega (arith, fair)
+taken_raised (w ∷ ws) (suc k) within fair = taken_raised ws k (omega arith) fair
+
+-- where the words rise by 1 or 2 places, the last place is reached past the last word, with room for what is carried
+pub last_place : (step field : ℕ) → 0 < step → step ≤ 2 → field ≡ 254 + 64 / step → (step * field ≡ step * 254 + 64) × (255 ≤ field)
 last_place step field some few e =
     ⊎_elim
-    (λ (one : step ≡ 1). let f : field ≡ 576 = e ∙ ap (λ (n : ℕ). 576 / n) one in omega (arith, ap (λ (n : ℕ). n * field) one))
+    (λ (one : step ≡ 1). let f : field ≡ 254 + 64 / 1 = e ∙ ap (λ (n : ℕ). 254 + 64 / n) one in omega (arith, f, ap (λ (n : ℕ). n * field) one, one))
     (λ (ne : step ≢ 1).
     let two : step ≡ 2 = omega arith in
-    let f : field ≡ 288 = e ∙ ap (λ (n : ℕ). 576 / n) two in omega (arith, ap (λ (n : ℕ). n * field) two))
+    let f : field ≡ 254 + 64 / 2 = e ∙ ap (λ (n : ℕ). 254 + 64 / n) two in omega (arith, f, ap (λ (n : ℕ). n * field) two, two))
     (cases_eq step 1)
 
-pub place_within : (step field : ℕ) → 0 < step → step ≤ 2 → field < 576 / step → step * field + step ≤ 576
+pub place_within : (step field : ℕ) → 0 < step → step ≤ 2 → field < 254 + 64 / step → step * field + step ≤ 576
 place_within step field some few lt =
     ⊎_elim
-    (λ (one : step ≡ 1). let h : field < 576 = subst (λ (n : ℕ). field < 576 / n) one lt in omega (arith, ap (λ (n : ℕ). n * field) one))
+    (λ (one : step ≡ 1). let h : field < 254 + 64 / 1 = subst (λ (n : ℕ). field < 254 + 64 / n) one lt in omega (arith, h, ap (λ (n : ℕ). n * field) one))
     (λ (ne : step ≢ 1).
     let two : step ≡ 2 = omega arith in
-    let h : field < 288 = subst (λ (n : ℕ). field < 576 / n) two lt in omega (arith, ap (λ (n : ℕ). n * field) two))
+    let h : field < 254 + 64 / 2 = subst (λ (n : ℕ). field < 254 + 64 / n) two lt in omega (arith, h, ap (λ (n : ℕ). n * field) two))
     (cases_eq step 1)
 
 -- words of 64 bits
-pub spread_fits : (step : ℕ) (w : ℕ → ℕ) → 0 < step → step ≤ 2 → ((k : ℕ) → w k < 2 ^ 64) → spread step w 255 < 2 ^ 576
-spread_fits step w some few each =
-    let few_places : step * 253 + 1 ≤ 507 = omega arith in
-    let p : 2 ^ (step * 253 + 1) ≤ 2 ^ 507 = pow-le-pow_right (omega arith) few_places in
-    let q = spread_small step w (2 ^ 64) some 253 (λ k lt. omega (arith, each k)) in
-    lt_of_le_of_lt q (lt_of_le_of_lt (mul-le-mul_left (2 ^ 64) p) (lit< tt))
+pub spread_fits : (step : ℕ) (w : ℕ → ℕ) → 0 < step → ((k : ℕ) → k < 255 → w k < 2 ^ 64) → spread step w 255 < 2 ^ (step * 254 + 64)
+spread_fits step w some each =
+    let top : step * 253 + 1 + 64 ≤ step * 254 + 64 = omega arith in
+    let p : 2 ^ (step * 253 + 1 + 64) ≤ 2 ^ (step * 254 + 64) = pow-le-pow_right (omega arith) top in
+    let q = spread_small step w 18446744073709551615 some 253 (λ k lt. omega (arith, each k (omega arith))) in
+    omega (arith, q, p, pow-add 2 (step * 253 + 1) 64, pow_pos (step * 253 + 1))
 
 -- ---- sums of spreads
 module _ (step : ℕ) where

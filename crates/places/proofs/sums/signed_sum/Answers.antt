@@ -1,7 +1,7 @@
-use Rattle.std.proofs.Common.{◌≡◌, ℕ, ◌+◌, ◌^◌, ◌<◌, Bool, List, length, get_or, rules}
+use Rattle.std.proofs.Common.{◌≡◌, ◌+◌, ◌^◌, ◌<◌, Bool, List, ℤ, length, arith, rules}
 use Rattle.places.specs.Digits.{bits_value}
-use Rattle.places.specs.Spread.{spread, ups, downs}
-use Rattle.places.proofs.Spreading.{spread_lifted}
+use Rattle.places.specs.Spread.{spread, ups, downs, raised, taken}
+use Rattle.places.proofs.Spreading.{spread_lifted, taken_raised}
 use Rattle.places.proofs.Lacking.{at_raise, not_below, below_raise, cleared}
 use Rattle.places.proofs.sums.signed_sum.Goals as goal
 use Rattle.places.proofs.sums.signed_sum.Goals.{After-spread_sum-size}
@@ -9,8 +9,10 @@ use Rattle.places.proofs.sums.signed_sum.Goals.{After-spread_sum-size}
 -- the raised sum
 sum : (c : After-spread_sum-size) → (bits_value c.spread_sum-size.result.digits + spread 1 (downs c.args.words.now) 255 ≡ spread 1 (ups c.args.words.now) 255 + 2 ^ 317) × (bits_value c.spread_sum-size.result.digits < 2 ^ 318)
 sum c =
-    let fits : (k : ℕ) → get_or c.raised.result k 0 < 2 ^ 64 = λ k. search rules in
-    rw c.spread_sum-size.ensures (spread_lifted (λ k. get_or c.raised.result k 0) (downs c.args.words.now) (ups c.args.words.now) c.raised.ensures (λ k lt. fits k))
+    let ws : List ℤ = c.args.words.now in
+    let long : length ws ≡ 255 = search rules in
+    let each = c.spread_sum-size.ensures.each in
+    rw c.spread_sum-size.ensures.sum (spread_lifted (taken raised ws) (downs ws) (ups ws) (λ k lt. taken_raised ws k (omega arith) (each k lt).1) (λ k lt. (each k lt).0))
 
 pub lacking-size-requires : goal.lacking-size-requires
 lacking-size-requires c =
