@@ -18,7 +18,8 @@ pub(crate) struct Started {
 impl Started {
     // By `new` and not by From, since a reciprocal is added to the question.
     pub(crate) fn new(question: Question) -> Started
-        ensures { result.question ≡ question }
+        ensures question { result.question ≡ question }
+        ensures right { result.bits ≡ 9 }
     {
         Started {
             question,

@@ -114,8 +114,8 @@ impl Rule for AnyRule {
             AnyRule::Even => Even.grows(negative, odd, rest),
             AnyRule::Away => Away.grows(negative, odd, rest),
             AnyRule::Zero => Zero.grows(negative, odd, rest),
-            AnyRule::Up => Directed::<false>.grows(negative, odd, rest),
-            AnyRule::Down => Directed::<true>.grows(negative, odd, rest),
+            AnyRule::Up => (Up {}).grows(negative, odd, rest),
+            AnyRule::Down => (Down {}).grows(negative, odd, rest),
         }
     }
 
@@ -124,8 +124,8 @@ impl Rule for AnyRule {
             AnyRule::Even => Even.overflows_to_infinity(negative),
             AnyRule::Away => Away.overflows_to_infinity(negative),
             AnyRule::Zero => Zero.overflows_to_infinity(negative),
-            AnyRule::Up => Directed::<false>.overflows_to_infinity(negative),
-            AnyRule::Down => Directed::<true>.overflows_to_infinity(negative),
+            AnyRule::Up => (Up {}).overflows_to_infinity(negative),
+            AnyRule::Down => (Down {}).overflows_to_infinity(negative),
         }
     }
 }

@@ -1,4 +1,4 @@
-use Rattle.std.proofs.Common.{ℕ, ◌≡◌, ◌<◌, ◌≤◌, sym, ap, ◌∙◌, arith, lit<}
+use Rattle.std.proofs.Common.{◌<◌, ◌≤◌, sym, ap, ◌∙◌, arith, lit<}
 use Rattle.rounding.specs.Format.{binary32, joined}
 use Rattle.rounding.proofs.Chosen.{finite_answer, overflow_answer}
 use Rattle.rounding.proofs.round.round.Goals as goal
