@@ -1,5 +1,5 @@
 -- What users of a window may cite: bounds on what stands, that a peak is the only one, and that what is asked is in range.
-use Rattle.std.proofs.Common.{◌≡◌, ℕ, ◌-◌, ◌*◌, true, ◌<◌, ◌≤◌, List, length, get_or, ap, ◌∙◌, ⊎_elim, arith}
+use Rattle.std.proofs.Common.{◌≡◌, ℕ, ◌-◌, ◌*◌, true, ◌<◌, ◌≤◌, List, length, get_or, ap, ◌∙◌, subst, ⊎_elim, arith}
 use borrow.Author.Differences.{le_out, lt_out}
 use Rattle.std.specs.List.{slice_get}
 use Rattle.std.proofs.lemmas.Bool.{cases_order, le-leb, lt-ltb}
@@ -18,6 +18,10 @@ standing_few w = omega (arith, w.ring.few, ringed_length w.ring.cells w.ring.sta
 
 pub standing_finite : (w : Window) (k : ℕ) → Finite (get_or (standing w) k blank)
 standing_finite w k = w.held.0 k
+
+-- a peak is one of the replies, and so it is finite where they are
+pub peak_finite : (xs : List Encoding) (p : Peak) → Peaks xs p → ((k : ℕ) → Finite (get_or xs k blank)) → Finite p.encoding
+peak_finite xs p a all = subst Finite (nth_stands xs (p.place - 1) p.encoding a.stands).1 (all (p.place - 1))
 
 -- of two peaks neither has the lesser place
 not_before : (xs : List Encoding) (p q : Peak) → Peaks xs p → Peaks xs q → p.place < q.place → ⊥

@@ -1,5 +1,5 @@
 // A meter's polls: begun, repeated, and ended by a reply or a lapse.
-ghost use Rattle.std.specs.Prelude.{◌≡◌, ◌+◌, length, Some, None, MatchResult};
+ghost use Rattle.std.specs.Prelude.{◌≡◌, ◌+◌, ◌≤◌, length, Some, None, IfOk, MatchResult};
 ghost use Rattle.meter.specs.Meters.{with_model};
 ghost use Rattle.meter.specs.Model.{fresh, refuses_poll, refuses_ended, refuses_repeat, refuses_reply, refuses_lapse, unless, polled, replied, lapsed};
 
@@ -28,6 +28,7 @@ impl<E, R> Meter<E, R> {
     // Begins a poll, at its first attempt.
     pub fn poll(&mut self) -> Result<PendingPoll, MeterFault>
         ensures result { MatchResult result (λ p. (refuses_poll self.old.model ≡ None) × (p.address ≡ self.old.model.address) × (p.attempt ≡ 1)) (λ fault. refuses_poll self.old.model ≡ Some fault) }
+        ensures ranged { IfOk result (λ p. (1 ≤ p.address) × (p.address ≤ 247)) }
         ensures after { self.new ≡ with_model self.old (unless (refuses_poll self.old.model) (polled self.old.model) self.old.model) }
     {
         if self.pending {
@@ -45,7 +46,8 @@ impl<E, R> Meter<E, R> {
 
     // Whether this poll may go on here.
     fn expects(&self, poll: &PendingPoll) -> Result<(), MeterFault>
-        ensures { MatchResult result (λ _. refuses_ended self.now.model poll.now.address None ≡ None) (λ fault. refuses_ended self.now.model poll.now.address None ≡ Some fault) }
+        ensures ranged { IfOk result (λ _. (1 ≤ poll.now.address) × (poll.now.address ≤ 247)) }
+        ensures result { MatchResult result (λ _. refuses_ended self.now.model poll.now.address None ≡ None) (λ fault. refuses_ended self.now.model poll.now.address None ≡ Some fault) }
     {
         if !self.pending {
             return Err(MeterFault::NonePending);
@@ -58,7 +60,8 @@ impl<E, R> Meter<E, R> {
 
     // The poll at the attempt after this one.
     fn next_attempt(&self, poll: &PendingPoll) -> Result<PendingPoll, MeterFault>
-        ensures { MatchResult result (λ p. (refuses_repeat self.now.model poll.now.address poll.now.attempt ≡ None) × (p.address ≡ poll.now.address) × (p.attempt ≡ poll.now.attempt + 1)) (λ fault. refuses_repeat self.now.model poll.now.address poll.now.attempt ≡ Some fault) }
+        ensures ranged { IfOk result (λ p. (1 ≤ p.address) × (p.address ≤ 247)) }
+        ensures result { MatchResult result (λ p. (refuses_repeat self.now.model poll.now.address poll.now.attempt ≡ None) × (p.address ≡ poll.now.address) × (p.attempt ≡ poll.now.attempt + 1)) (λ fault. refuses_repeat self.now.model poll.now.address poll.now.attempt ≡ Some fault) }
     {
         self.expects(poll)?;
         let attempt = poll.attempt();
@@ -71,6 +74,7 @@ impl<E, R> Meter<E, R> {
     // The same question once more; a refused poll is handed back as it was.
     pub fn repeat(&mut self, poll: PendingPoll) -> Result<PendingPoll, Refused>
         ensures result { MatchResult result (λ p. (refuses_repeat self.old.model poll.address poll.attempt ≡ None) × (p.address ≡ poll.address) × (p.attempt ≡ poll.attempt + 1)) (λ back. (refuses_repeat self.old.model poll.address poll.attempt ≡ Some back.fault) × (back.poll.address ≡ poll.address) × (back.poll.attempt ≡ poll.attempt)) }
+        ensures ranged { IfOk result (λ p. (1 ≤ p.address) × (p.address ≤ 247)) }
         ensures after { self.new ≡ self.old }
     {
         let next = self.next_attempt(&poll);

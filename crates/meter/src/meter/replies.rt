@@ -33,7 +33,7 @@ impl<E, R> Meter<E, R> {
 
     // The greatest standing reply by value and its place, counted from 1 at the oldest; the oldest among equals.
     pub fn peak(&self) -> Result<Peak, MeterFault>
-        ensures { MatchResult result (λ peak. (refuses_empty self.now.model ≡ None) × Peaks self.now.model.replies peak × (peak.place ≤ 288)) (λ fault. refuses_empty self.now.model ≡ Some fault) }
+        ensures { MatchResult result (λ peak. (refuses_empty self.now.model ≡ None) × Peaks self.now.model.replies peak × (peak.place ≤ 288) × Finite peak.encoding) (λ fault. refuses_empty self.now.model ≡ Some fault) }
     {
         Ok(self.window.peak()?)
     }

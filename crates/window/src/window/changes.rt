@@ -34,7 +34,7 @@ impl Window {
     // The oldest reply goes. Answers how many still stand. That retiring and retracting are methods of their own, here and at the meter, is a
     // rule of the project; what they share lies in the ring and the words.
     pub fn retire(&mut self) -> Result<usize, WindowFault>
-        ensures result { MatchResult result (λ n. n + 1 ≡ length (standing self.old)) (λ fault. (length (standing self.old) ≡ 0) × (fault ≡ WindowFault.Empty)) }
+        ensures result { MatchResult result (λ n. (n + 1 ≡ length (standing self.old)) × (n < 288)) (λ fault. (length (standing self.old) ≡ 0) × (fault ≡ WindowFault.Empty)) }
         ensures stands { standing self.new ≡ drop 1 (standing self.old) }
     {
         let (gone, ring) = self.ring.without_oldest().ok_or(WindowFault::Empty)?;
@@ -45,7 +45,7 @@ impl Window {
 
     // The newest reply goes. Answers how many still stand.
     pub fn retract(&mut self) -> Result<usize, WindowFault>
-        ensures result { MatchResult result (λ n. n + 1 ≡ length (standing self.old)) (λ fault. (length (standing self.old) ≡ 0) × (fault ≡ WindowFault.Empty)) }
+        ensures result { MatchResult result (λ n. (n + 1 ≡ length (standing self.old)) × (n < 288)) (λ fault. (length (standing self.old) ≡ 0) × (fault ≡ WindowFault.Empty)) }
         ensures stands { standing self.new ≡ take (length (standing self.old) - 1) (standing self.old) }
     {
         let (gone, ring) = self.ring.without_newest().ok_or(WindowFault::Empty)?;

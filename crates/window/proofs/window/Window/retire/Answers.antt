@@ -1,4 +1,4 @@
-use Rattle.std.proofs.Common.{ℕ, suc, subst}
+use Rattle.std.proofs.Common.{ℕ, suc, length, ap, subst, arith}
 use Rattle.window.specs.Ring.{standing_in}
 use Rattle.window.specs.Window.{standing}
 use Rattle.window.specs.Words.{Tells}
@@ -25,3 +25,9 @@ invariant_of-self c =
         tells_older c.without-words.result w.words c.in_ok-gone.gone (standing_in c.in_ok-gone.ring) c.without-words.ensures (subst (Tells w.words) left w.held.1),
       );
     }
+
+pub returns-clause-result : goal.returns-clause-result
+returns-clause-result c =
+    let w = c.args.self.now in
+    let long = ap length (rw c.in_ok-gone.ensures.ok_part at c.without_oldest.ensures) in
+    (omega (arith, long, c.count.ensures.stands), omega (arith, long, c.count.ensures.stands, standing_few w))
