@@ -1,5 +1,5 @@
 -- Replies between C's cells and a meter, one more at a time.
-use Rattle.std.proofs.Common.{◌≡◌, ℕ, zero, suc, ◌+◌, ◌<◌, ◌≤◌, true, false, ◌&&◌, List, [], ◌∷◌, ◌++◌, map, length, get_or, take, Bool, cond, Some, None, unwrap_or, option_map, sym, refl, ap, ◌∙◌, arith}
+use Rattle.std.proofs.Common.{◌≡◌, ℕ, zero, suc, ◌+◌, ◌<◌, ◌≤◌, true, false, ◌&&◌, List, [], ◌∷◌, ◌++◌, map, length, get_or, take, Bool, cond, Some, None, sym, refl, ap, ◌∙◌, arith}
 use Rattle.std.proofs.lemmas.List.{take_more, map-append, length-map, length-take-le}
 use Rattle.std.proofs.lemmas.Bool.Decides.{nat_tests}
 use Rattle.std.specs.List.{slice_get}
@@ -40,14 +40,11 @@ finite_stops (m ∷ ms) (suc i) l f =
     let e : all_finite (encodings ms) ≡ false = finite_stops ms i (omega arith) f in
     rw e (elim (is_finite binary32 m) as (λ b. b && false ≡ false) [ true ↦ refl | false ↦ refl ])
 
--- the number of the reply at k, and 0 where none stands
-abbrev pub cell : List Encoding → ℕ → ℕ
-cell xs k = unwrap_or (option_map (λ (x : Encoding). x.bits) (slice_get xs k)) 0
-
-pub at_cell : (xs : List Encoding) (k : ℕ) → cell xs k ≡ get_or (map (λ (x : Encoding). x.bits) xs) k 0
-at_cell [] k = refl
-at_cell (x ∷ xs) zero = refl
-at_cell (x ∷ xs) (suc k) = at_cell xs k
+-- the number of a reply that stands
+pub nth_bits : (xs : List Encoding) (i : ℕ) (x : Encoding) → slice_get xs i ≡ Some x → slice_get (map (λ (e : Encoding). e.bits) xs) i ≡ Some x.bits
+nth_bits [] i x e = let k : ◌≡◌ {A = ℕ} 0 1 = cc in absurd (omega arith)
+nth_bits (y ∷ ys) zero x e = let q : y ≡ x = cc in ap (λ (z : Encoding). Some z.bits) q
+nth_bits (y ∷ ys) (suc i) x e = nth_bits ys i x e
 
 -- a reply to the pending poll, where there is room, is refused only where it is not finite
 refuses_infinite : (m : Model) (p : ℕ) (x : Encoding) → m.pending ≡ true → p ≡ m.address → length m.replies < 288 → refuses_reply m p x ≡ cond (is_finite binary32 x.bits) None (Some NotFinite)

@@ -13,27 +13,42 @@ use Rattle.c_interface.specs.Numbers.{engine_numbered, rule_numbered}
 use Rattle.c_interface.specs.Held.{Held, held, is_meter, model_in, replies_in, all_finite}
 use Rattle.c_interface.specs.Calls.{empty}
 
+-- the three parts on their own
+made : MeterData → Option EngineName → Option AnyRule → Bool → Option Held
+made d e r b = found e None (λ n. found r None (λ k. cond b (Some (record { model = model_in d; engine = n; rule = k })) None))
+
 -- when numbers stand for no meter
 pub no_engine : (d : MeterData) → engine_numbered d.engine ≡ None → held d ≡ None
-unfolding held
-no_engine d e = rw e
+unfolding held made
+no_engine d e = let go : (o : Option EngineName) → o ≡ None → made d o (rule_numbered d.rule) (is_meter d) ≡ None = λ o p. rw p in go (engine_numbered d.engine) e
 
-pub no_rule : (d : MeterData) (n : EngineName) → engine_numbered d.engine ≡ Some n → rule_numbered d.rule ≡ None → held d ≡ None
-unfolding held
-no_rule d n e r = rw (e, r)
+no_rule_made : (d : MeterData) (o : Option EngineName) (b : Bool) → made d o None b ≡ None
+unfolding made
+no_rule_made d None b = refl
+no_rule_made d (Some e) b = refl
 
-pub no_meter : (d : MeterData) (n : EngineName) (k : AnyRule) → engine_numbered d.engine ≡ Some n → rule_numbered d.rule ≡ Some k → is_meter d ≡ false → held d ≡ None
-unfolding held
-no_meter d n k e r m = rw (e, r, m)
+pub no_rule : (d : MeterData) → rule_numbered d.rule ≡ None → held d ≡ None
+unfolding held made
+no_rule d e =
+    let go : (r : Option AnyRule) → r ≡ None → made d (engine_numbered d.engine) r (is_meter d) ≡ None = λ r p. rw p (no_rule_made d (engine_numbered d.engine) (is_meter d)) in
+    go (rule_numbered d.rule) e
+
+no_meter_made : (d : MeterData) (o : Option EngineName) (r : Option AnyRule) → made d o r false ≡ None
+unfolding made
+no_meter_made d None r = refl
+no_meter_made d (Some e) None = refl
+no_meter_made d (Some e) (Some k) = refl
+
+pub no_meter : (d : MeterData) → is_meter d ≡ false → held d ≡ None
+unfolding held made
+no_meter d e =
+    let go : (b : Bool) → b ≡ false → made d (engine_numbered d.engine) (rule_numbered d.rule) b ≡ None = λ b p. rw p (no_meter_made d (engine_numbered d.engine) (rule_numbered d.rule)) in
+    go (is_meter d) e
 
 -- and when for one
 pub a_meter : (d : MeterData) (n : EngineName) (k : AnyRule) → engine_numbered d.engine ≡ Some n → rule_numbered d.rule ≡ Some k → is_meter d ≡ true → held d ≡ Some (record { model = model_in d; engine = n; rule = k })
 unfolding held
 a_meter d n k e r m = rw (e, r, m)
-
--- the three parts on their own
-made : MeterData → Option EngineName → Option AnyRule → Bool → Option Held
-made d e r b = found e None (λ n. found r None (λ k. cond b (Some (record { model = model_in d; engine = n; rule = k })) None))
 
 named_made : (d : MeterData) (h : Held) (o : Option EngineName) (s : Option AnyRule) (b : Bool) → made d o s b ≡ Some h → (o ≡ Some h.engine) × (s ≡ Some h.rule)
 unfolding made

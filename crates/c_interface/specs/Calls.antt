@@ -27,7 +27,7 @@ use Rattle.c_interface.specs.declared.refusal.Unknown.TheVariants as unknown
 use Rattle.c_interface.specs.declared.refusal.Refusal.{Refusal}
 use Rattle.c_interface.specs.declared.refusal.Refusal.TheVariants.{Unknown}
 use Rattle.c_interface.specs.Refusals.{number, refusal_number, carried, found}
-use Rattle.c_interface.specs.Numbers.{engine_numbered, rule_numbered, number_of, number_refused, newest_told}
+use Rattle.c_interface.specs.Numbers.{engine_numbered, rule_numbered, number_of, number_refusal, newest_told}
 use Rattle.c_interface.specs.Held.{Held, held, shown}
 
 -- a refusal's answer, or the accepted one
@@ -150,10 +150,10 @@ abbrev pub retract_answer : MeterData → CountAnswer
 retract_answer d = less_answer retracted d
 
 abbrev pub mean_answer : MeterData → NumberAnswer
-mean_answer d = on_meter d number_refused empty_refusal (λ h. number_of (mean (rule_of h.rule) h.model.replies) (mean_log none h.model.replies))
+mean_answer d = on_meter d number_refusal empty_refusal (λ h. number_of (mean (rule_of h.rule) h.model.replies) (mean_log none h.model.replies))
 
 abbrev pub mean_square_answer : MeterData → NumberAnswer
-mean_square_answer d = on_meter d number_refused empty_refusal (λ h. number_of (mean_square (rule_of h.rule) h.model.replies) (mean_square_log none h.model.replies))
+mean_square_answer d = on_meter d number_refusal empty_refusal (λ h. number_of (mean_square (rule_of h.rule) h.model.replies) (mean_square_log none h.model.replies))
 
 abbrev pub average_answer : Average → MeterData → NumberAnswer
 average_answer Mean = mean_answer

@@ -36,18 +36,22 @@ asked_of log = record { estimates = log.estimates; divisor = log.divisor; divide
 abbrev pub number_of : Outcome → Log → NumberAnswer
 number_of o log = record { bits = o.bits; flags = o.flags; refused = 0; asked = asked_of log }
 
-abbrev pub number_refused : Refusal → NumberAnswer
-number_refused r = record { bits = 0; flags = 0; refused = refusal_number r; asked = asked_of none }
+-- refused with this number: all others are 0
+abbrev pub number_refused : ℕ → NumberAnswer
+number_refused n = record { bits = 0; flags = 0; refused = n; asked = asked_of none }
+
+abbrev pub number_refusal : Refusal → NumberAnswer
+number_refusal r = number_refused (refusal_number r)
 
 -- a number that names no engine is refused first, and then one that names no rule
 abbrev pub quotient_answer : ℕ → ℕ → ℕ → ℕ → NumberAnswer
 quotient_answer engine rule x y =
-    found (engine_numbered engine) (number_refused (Unknown unknown.Engine)) (λ e.
-    found (rule_numbered rule) (number_refused (Unknown unknown.Rule)) (λ r.
+    found (engine_numbered engine) (number_refusal (Unknown unknown.Engine)) (λ e.
+    found (rule_numbered rule) (number_refusal (Unknown unknown.Rule)) (λ r.
     number_of (quotient binary32 (rule_of r) x y) (quotient_log binary32 none x y)))
 
 abbrev pub square_answer : ℕ → ℕ → NumberAnswer
-square_answer rule x = found (rule_numbered rule) (number_refused (Unknown unknown.Rule)) (λ r. number_of (square binary32 (rule_of r) x) none)
+square_answer rule x = found (rule_numbered rule) (number_refusal (Unknown unknown.Rule)) (λ r. number_of (square binary32 (rule_of r) x) none)
 
 -- an accepted answer of the newest reply, where one stands
 abbrev pub newest_told : Option Encoding → NewestAnswer

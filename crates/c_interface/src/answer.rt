@@ -1,7 +1,7 @@
 // What goes back to C: structs of plain numbers. A `refused` of 0 says that the call was accepted.
 // C has no Option and no Result, so `refused`, `present` and a poll's two numbers stand beside the values.
 ghost use Rattle.std.specs.Prelude.{◌≡◌};
-ghost use Rattle.c_interface.specs.Numbers.{asked_of, number_refused, newest_told};
+ghost use Rattle.c_interface.specs.Numbers.{asked_of, number_refused, number_refusal, newest_told};
 
 use crate::data::MeterData;
 use crate::refusal::Refusal;
@@ -52,18 +52,25 @@ impl NumberAnswer {
             asked: log.into(),
         }
     }
-}
 
-impl From<Refusal> for NumberAnswer {
-    ghost from_gives = { λ refusal answer. answer ≡ number_refused refusal };
-
-    fn from(refusal: Refusal) -> NumberAnswer {
+    // Any number may be told of a refusal; a refusal tells its own.
+    pub fn refused(refused: u8) -> NumberAnswer
+        ensures { result ≡ number_refused refused }
+    {
         NumberAnswer {
             bits: 0,
             flags: 0,
-            refused: refusal.number(),
+            refused,
             asked: Log::new().into(),
         }
+    }
+}
+
+impl From<Refusal> for NumberAnswer {
+    ghost from_gives = { λ refusal answer. answer ≡ number_refusal refusal };
+
+    fn from(refusal: Refusal) -> NumberAnswer {
+        NumberAnswer::refused(refusal.number())
     }
 }
 

@@ -1,6 +1,6 @@
 // Mean and mean square of a meter's standing replies, for C.
 ghost use Rattle.std.specs.Prelude.{◌≡◌};
-ghost use Rattle.c_interface.specs.Numbers.{number_refused};
+ghost use Rattle.c_interface.specs.Numbers.{number_refusal};
 ghost use Rattle.c_interface.specs.Refusals.{answered};
 ghost use Rattle.c_interface.specs.Calls.{average_answer, mean_answer, mean_square_answer};
 
@@ -12,8 +12,9 @@ use arithmetic::standing::StandingFlags;
 use engines::Engine;
 use window::average::Average;
 
+#[inline(always)]
 fn averaged(meter: &MeterData, which: Average) -> Result<NumberAnswer, Refusal>
-    ensures { answered result number_refused ≡ average_answer which meter.now }
+    ensures { answered result number_refusal ≡ average_answer which meter.now }
 {
     let mut held = restored(meter)?;
     let answer = held.average(&mut StandingFlags::new(), which)?;

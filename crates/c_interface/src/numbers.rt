@@ -1,7 +1,7 @@
 // Quotient and square for C, over an engine and a rule that are named by number.
 ghost use Rattle.std.specs.Prelude.{◌≡◌};
 ghost use Rattle.c_interface.specs.Refusals.{answered};
-ghost use Rattle.c_interface.specs.Numbers.{number_refused, quotient_answer, square_answer};
+ghost use Rattle.c_interface.specs.Numbers.{number_refusal, quotient_answer, square_answer};
 
 use crate::answer::NumberAnswer;
 use crate::chosen::{engine_numbered, rule_numbered};
@@ -20,7 +20,7 @@ fn divided(
     dividend: Encoding,
     divisor: Encoding,
 ) -> Result<NumberAnswer, Refusal>
-    ensures { answered result number_refused ≡ quotient_answer engine rule dividend.bits divisor.bits }
+    ensures { answered result number_refusal ≡ quotient_answer engine rule dividend.bits divisor.bits }
 {
     let mut chosen = AnyEngine::new(engine_numbered(engine)?);
     let answer = quotient(
@@ -34,7 +34,7 @@ fn divided(
 }
 
 fn squared(rule: u8, operand: Encoding) -> Result<NumberAnswer, Refusal>
-    ensures { answered result number_refused ≡ square_answer rule operand.bits }
+    ensures { answered result number_refusal ≡ square_answer rule operand.bits }
 {
     let answer = square(&rule_numbered(rule)?, &mut StandingFlags::new(), operand);
     Ok(NumberAnswer::accepted(answer, Log::new()))

@@ -1,5 +1,5 @@
 // A meter's polls for C: begun, repeated, and ended by a reply or a lapse.
-ghost use Rattle.std.specs.Prelude.{◌≡◌};
+ghost use Rattle.std.specs.Prelude.{◌≡◌, None, MatchResult};
 ghost use Rattle.meter.specs.Model.{refuses_poll, polled, replied, lapsed};
 ghost use Rattle.c_interface.specs.Refusals.{answered};
 ghost use Rattle.c_interface.specs.Held.{held};
@@ -32,17 +32,13 @@ fn empty(address: u8, engine: u8, rule: u8) -> MeterData
     }
 }
 
-fn made(address: u16, engine: u8, rule: u8) -> Result<MeterAnswer, Refusal>
-    ensures answer { answered result new_refused ≡ new_answer address engine rule }
-    ensures stands { held (answered result new_refused).meter ≡ new_held address engine rule }
+// The address of a new meter, once all its numbers are checked. What is answered is made only where C gets it, since it is a whole meter.
+fn addressed(address: u16, engine: u8, rule: u8) -> Result<Address, Refusal>
+    ensures { MatchResult result (λ a. (new_answer address engine rule ≡ record { meter = empty a.number engine rule; refused = 0 }) × (new_held address engine rule ≡ held (empty a.number engine rule))) (λ refusal. (new_answer address engine rule ≡ new_refused refusal) × (new_held address engine rule ≡ None)) }
 {
     let _ = engine_numbered(engine)?;
     let _ = rule_numbered(rule)?;
-    let checked = Address::try_from(address)?;
-    Ok(MeterAnswer {
-        meter: empty(checked.number(), engine, rule),
-        refused: 0,
-    })
+    Ok(Address::try_from(address)?)
 }
 
 #[unsafe(no_mangle)]
@@ -50,10 +46,17 @@ pub extern "C" fn wozkerrim_meter_new(address: u16, engine: u8, rule: u8) -> Met
     ensures answer { result ≡ new_answer address engine rule }
     ensures stands { held result.meter ≡ new_held address engine rule }
 {
-    made(address, engine, rule).unwrap_or_else(|refusal| MeterAnswer {
-        meter: empty(0, 0, 0),
-        refused: refusal.number(),
-    })
+    let checked = match addressed(address, engine, rule) {
+        Ok(checked) => checked,
+        Err(refusal) => return MeterAnswer {
+            meter: empty(0, 0, 0),
+            refused: refusal.number(),
+        },
+    };
+    MeterAnswer {
+        meter: empty(checked.number(), engine, rule),
+        refused: 0,
+    }
 }
 
 // The type is the replay's, so no Default can be derived here.
@@ -66,6 +69,7 @@ fn no_poll() -> SeenPoll
     }
 }
 
+#[inline(always)]
 fn begun(meter: &MeterData) -> Result<PollAnswer, Refusal>
     ensures answer { answered result (poll_refused meter.now) ≡ poll_answer meter.now }
     ensures stands { held (answered result (poll_refused meter.now)).meter ≡ next meter.now refuses_poll polled }
@@ -91,6 +95,7 @@ pub extern "C" fn wozkerrim_poll(meter: MeterData) -> PollAnswer
     })
 }
 
+#[inline(always)]
 fn repeated(meter: &MeterData, poll: SeenPoll) -> Result<RepeatAnswer, Refusal>
     ensures { answered result (repeat_refused poll) ≡ repeat_answer meter.now poll }
 {
@@ -114,6 +119,7 @@ pub extern "C" fn wozkerrim_repeat(meter: MeterData, poll: SeenPoll) -> RepeatAn
     })
 }
 
+#[inline(always)]
 fn replied(meter: &MeterData, poll: SeenPoll, reply: Encoding) -> Result<ReplyAnswer, Refusal>
     ensures answer { answered result (reply_refused meter.now poll) ≡ reply_answer meter.now poll reply.bits }
     ensures stands { held (answered result (reply_refused meter.now poll)).meter ≡ next meter.now (reply_refusal poll reply.bits) (λ m. replied m reply) }
@@ -143,6 +149,7 @@ pub extern "C" fn wozkerrim_reply(meter: MeterData, poll: SeenPoll, bits: u32) -
     })
 }
 
+#[inline(always)]
 fn lapsed(meter: &MeterData, poll: SeenPoll) -> Result<MeterAnswer, Refusal>
     ensures answer { answered result (lapse_refused meter.now) ≡ lapse_answer meter.now poll }
     ensures stands { held (answered result (lapse_refused meter.now)).meter ≡ next meter.now (lapse_refusal poll) lapsed }

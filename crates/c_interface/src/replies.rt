@@ -19,6 +19,7 @@ enum End {
 }
 
 // The reply at this end goes.
+#[inline(always)]
 fn taken_away(meter: &MeterData, end: End) -> Result<CountAnswer, Refusal>
     ensures answer { answered result (less_refused meter.now) ≡ less_answer (less end) meter.now }
     ensures stands { held (answered result (less_refused meter.now)).meter ≡ next meter.now refuses_empty (less end) }
@@ -35,6 +36,7 @@ fn taken_away(meter: &MeterData, end: End) -> Result<CountAnswer, Refusal>
     })
 }
 
+#[inline(always)]
 fn kept(meter: MeterData, refusal: Refusal) -> CountAnswer
     ensures { result ≡ less_refused meter refusal }
 {
@@ -63,6 +65,7 @@ pub extern "C" fn wozkerrim_retract(meter: MeterData) -> CountAnswer
     taken_away(&meter, End::Newest).unwrap_or_else(|refusal| kept(meter, refusal))
 }
 
+#[inline(always)]
 fn peaked(meter: &MeterData) -> Result<PeakAnswer, Refusal>
     ensures { PeakAnswers meter.now (answered result no_peak) }
 {

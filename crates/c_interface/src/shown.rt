@@ -6,15 +6,18 @@ use crate::data::MeterData;
 use engine_choice::AnyEngine;
 use meter::meter::Meter;
 use rounding::rules::AnyRule;
-use std::array;
 
-// The standing replies, oldest first, with zeros behind them. In one line of its own beside the replay's list of encodings, which would have to be copied to be turned into numbers.
+// The standing replies, oldest first, with zeros behind them. The replay's list of encodings would have to be copied to be turned into numbers.
 fn replies_of(meter: &Meter<AnyEngine, AnyRule>) -> [u32; 288]
     ensures { result ≡ cells meter.now.model.replies }
 {
-    // None is left out.
-    prove!(meter.standing() <= 288);
-    array::from_fn(|i| meter.reply_at(i).map_or(0, |reply| reply.to_bits()))
+    let mut list = [0; 288];
+    for i in 0..meter.standing() {
+        if let Some(reply) = meter.reply_at(i) {
+            list[i] = reply.to_bits();
+        }
+    }
+    list
 }
 
 fn pending_of(meter: &Meter<AnyEngine, AnyRule>) -> u8
