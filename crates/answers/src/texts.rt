@@ -19,34 +19,34 @@ impl Text {
         }
     }
 
-    pub fn put(mut self, bytes: &[u8]) -> Text
-        requires { length self.bytes.items + length bytes.now ≤ 32 }
-        ensures { result.bytes.items ≡ self.bytes.items ++ bytes.now }
+    // What is lent grows in its place: a text that is passed on by value is copied at each digit.
+    pub fn put(&mut self, bytes: &[u8])
+        requires { length self.old.bytes.items + length bytes.now ≤ 32 }
+        ensures { self.new.bytes.items ≡ self.old.bytes.items ++ bytes.now }
     {
         self.bytes.try_extend_from_slice(bytes).unwrap();
-        self
     }
 
     // `n` without leading zeros.
-    pub fn decimal(self, n: u16) -> Text
-        requires { length self.bytes.items + 5 ≤ 32 }
-        ensures short { length result.bytes.items ≤ length self.bytes.items + 5 }
-        ensures after { result.bytes.items ≡ self.bytes.items ++ written n }
+    pub fn decimal(&mut self, n: u16)
+        requires { length self.old.bytes.items + 5 ≤ 32 }
+        ensures short { length self.new.bytes.items ≤ length self.old.bytes.items + 5 }
+        ensures after { self.new.bytes.items ≡ self.old.bytes.items ++ written n }
     {
-        self.put(Buffer::new().format(n).as_bytes())
+        self.put(Buffer::new().format(n).as_bytes());
     }
 
     // The last `count` hexadecimal digits of `n`. By hand, since std writes them by `write!` alone.
-    pub fn hexadecimal(self, count: usize, n: u32) -> Text
-        requires { length self.bytes.items + count ≤ 32 }
-        ensures end { length result.bytes.items ≡ length self.bytes.items + count }
-        ensures after { result.bytes.items ≡ self.bytes.items ++ digits 16 count n }
+    pub fn hexadecimal(&mut self, count: usize, n: u32)
+        requires { length self.old.bytes.items + count ≤ 32 }
+        ensures end { length self.new.bytes.items ≡ length self.old.bytes.items + count }
+        ensures after { self.new.bytes.items ≡ self.old.bytes.items ++ digits 16 count n }
     {
         if count == 0 {
-            return self;
+            return;
         }
-        let front = self.hexadecimal(count - 1, n / 16);
-        front.put(&[glyph((n % 16) as u8)])
+        self.hexadecimal(count - 1, n / 16);
+        self.bytes.push(glyph((n % 16) as u8));
     }
 }
 

@@ -3,7 +3,7 @@ use Rattle.std.specs.Prelude.{◌≡◌, ℕ, List, take}
 use Rattle.console.specs.declared.line.Line.{Line}
 
 abbrev pub held : Line → List ℕ
-held l = l.bytes.items
+held l = take l.count l.bytes
 
 -- A form has at most 80 bytes, so that the first 81 of a line decide its answer.
 abbrev pub Keeps : Line → List ℕ → Type 0

@@ -4,7 +4,7 @@ ghost use Rattle.forms.specs.Calculations.{calculation, divided, encoded, trial,
 ghost use Rattle.lex.specs.Reads.{Reads};
 
 use crate::Calculation;
-use lex::{hexadecimal, inside, split};
+use lex::{hexadecimal, inside, is, split};
 
 // A head and an encoding, as in (sqr H).
 pub fn read_encoded(line: &[u8], head: &[u8]) -> Option<u32>
@@ -25,8 +25,8 @@ pub fn read_calculation(line: &[u8]) -> Option<Calculation>
     ensures { Reads calculation Sized line.now result }
 {
     match line {
-        b"(mean)" => Some(Calculation::Mean),
-        b"(meansq)" => Some(Calculation::MeanSquare),
+        _ if is(line, b"(mean)") => Some(Calculation::Mean),
+        _ if is(line, b"(meansq)") => Some(Calculation::MeanSquare),
         _ => read_encoded(line, b"(sqr ")
             .map(|operand| Calculation::Square { operand })
             .or_else(|| {

@@ -4,7 +4,7 @@ ghost use Rattle.lex.specs.Reads.{Reads};
 
 use crate::Setup;
 use engine_choice::EngineName;
-use lex::{decimal, inside, split};
+use lex::{decimal, inside, is, split};
 use rounding::rules::AnyRule;
 
 // Two tables, of engines and of rules: nothing but their words and names could be shared.
@@ -12,9 +12,9 @@ fn read_engine(word: &[u8]) -> Option<EngineName>
     ensures { Reads engine (λ _. Unit {0}) word.now result }
 {
     match word {
-        b"digits" => Some(EngineName::Digits),
-        b"radix4" => Some(EngineName::Radix4),
-        b"cubic" => Some(EngineName::Cubic),
+        _ if is(word, b"digits") => Some(EngineName::Digits),
+        _ if is(word, b"radix4") => Some(EngineName::Radix4),
+        _ if is(word, b"cubic") => Some(EngineName::Cubic),
         _ => None,
     }
 }
@@ -23,11 +23,11 @@ fn read_rule(word: &[u8]) -> Option<AnyRule>
     ensures { Reads rule (λ _. Unit {0}) word.now result }
 {
     match word {
-        b"even" => Some(AnyRule::Even),
-        b"away" => Some(AnyRule::Away),
-        b"zero" => Some(AnyRule::Zero),
-        b"up" => Some(AnyRule::Up),
-        b"down" => Some(AnyRule::Down),
+        _ if is(word, b"even") => Some(AnyRule::Even),
+        _ if is(word, b"away") => Some(AnyRule::Away),
+        _ if is(word, b"zero") => Some(AnyRule::Zero),
+        _ if is(word, b"up") => Some(AnyRule::Up),
+        _ if is(word, b"down") => Some(AnyRule::Down),
         _ => None,
     }
 }

@@ -5,13 +5,13 @@ ghost use Rattle.lex.specs.Reads.{Reads};
 
 use crate::calculations::read_encoded;
 use crate::{Ending, Poll};
-use lex::inside;
+use lex::{inside, is};
 
 fn read_ending(text: &[u8]) -> Option<Ending>
     ensures { Reads ending Ended text.now result }
 {
     match text {
-        b"(lapse)" => Some(Ending::Lapse),
+        _ if is(text, b"(lapse)") => Some(Ending::Lapse),
         _ => read_encoded(text, b"(reply ").map(Ending::Reply),
     }
 }

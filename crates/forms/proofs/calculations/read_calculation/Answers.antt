@@ -3,8 +3,8 @@ use Rattle.std.proofs.Common.{rules, ◌≡◌, codes}
 use Rattle.forms.proofs.Texts.{no_calculation}
 use Rattle.forms.proofs.calculations.read_calculation.Goals as goal
 
-pub returns-in_default : goal.returns-in_default
-returns-in_default c =
+pub returns-else-is-2 : goal.returns-else-is-2
+returns-else-is-2 c =
     let mean : c.args.line.now ≡ codes "(mean)" → ⊥ = search rules in
     let meansq : c.args.line.now ≡ codes "(meansq)" → ⊥ = search rules in
     search (rules, no_calculation _ mean meansq)
