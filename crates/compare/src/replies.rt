@@ -1,11 +1,14 @@
 // The standing replies as a plain list, with sums worked out anew each time.
 use crate::reference::{Exact, SIGN, scaled};
 use crate::wide::Wide;
-use arrayvec::ArrayVec;
 
-#[derive(Drop)]
+const ROOM: usize = 288;
+
+// Numbers with their count, and no ArrayVec: a list is copied like a number.
+#[derive(Clone, Copy)]
 pub struct Replies {
-    list: ArrayVec<u32, 288>,
+    list: [u32; 288],
+    count: usize,
 }
 
 // The sums of the replies of either sign, and of all squares.
@@ -31,27 +34,32 @@ impl Sums {
 
 impl Replies {
     pub fn new() -> Replies {
-        Replies {
-            list: ArrayVec::new(),
-        }
+        let list = [0; 288];
+        Replies { list, count: 0 }
     }
 
     // Where there is room.
     pub fn push(&mut self, bits: u32) {
-        let _ = self.list.try_push(bits);
+        if self.count < ROOM {
+            self.list[self.count] = bits;
+            self.count += 1;
+        }
     }
 
     pub fn drop_first(&mut self) {
-        let _ = self.list.pop_at(0);
+        for i in 1..ROOM {
+            self.list[i - 1] = self.list[i];
+        }
+        self.count = self.count.saturating_sub(1);
     }
 
     pub fn drop_last(&mut self) {
-        let _ = self.list.pop();
+        self.count = self.count.saturating_sub(1);
     }
 
     fn sums(&self) -> Sums {
         let mut sums = Sums::default();
-        for bits in &self.list {
+        for bits in self.list.iter().take(self.count) {
             sums.add(*bits);
         }
         sums
@@ -59,7 +67,7 @@ impl Replies {
 
     // How many there are.
     fn number(&self) -> Wide {
-        Wide::from(self.list.len() as u32)
+        Wide::from(self.count.min(ROOM) as u32)
     }
 
     pub fn mean(&self) -> Exact {

@@ -6,8 +6,10 @@ ghost use Rattle.rounding.specs.Rules.{even_rule};
 
 use arithmetic::quotient::quotient;
 use arithmetic::standing::StandingFlags;
-use engine_choice::{AnyEngine, EngineName};
+use cubic::Cubic;
+use engines::digits::Digits;
 use engines::{Engine, Question, whole_quotient};
+use radix4::Radix4;
 use rounding::encoding::Encoding;
 use rounding::rules::Even;
 
@@ -23,10 +25,12 @@ pub struct Tally {
     pub rounded: u32,
 }
 
-// The three engines, `digits` first.
+// The three engines, each by its own type and not in an array of engines picked by name, so that no other can stand in its place.
 #[derive(Drop)]
 pub struct Three {
-    engines: [AnyEngine; 3],
+    digits: Digits,
+    radix4: Radix4,
+    cubic: Cubic,
 }
 
 // One more, where `a` and `b` differ.
@@ -47,9 +51,9 @@ fn further(widest: u32, a: u32, b: u32) -> u32 {
 impl Three {
     pub fn new() -> Three {
         Three {
-            engines: [EngineName::Digits, EngineName::Radix4, EngineName::Cubic].map(
-                AnyEngine::new,
-            ),
+            digits: Digits::new(),
+            radix4: Radix4::new(),
+            cubic: Cubic::new(),
         }
     }
 
@@ -57,7 +61,13 @@ impl Three {
     pub fn compared(&mut self, tally: Tally, question: Question) -> Tally
         ensures { (result.quotients ≡ tally.quotients) × (result.rounded ≡ tally.rounded) }
     {
-        let [digits, radix4, cubic] = self.estimates(question);
+        let digits = self
+            .digits
+            .estimate(question.divisor(), question.dividend());
+        let radix4 = self
+            .radix4
+            .estimate(question.divisor(), question.dividend());
+        let cubic = self.cubic.estimate(question.divisor(), question.dividend());
         Tally {
             pairs: tally.pairs.saturating_add(1),
             radix4_estimates: counted(tally.radix4_estimates, digits, radix4),
@@ -68,37 +78,31 @@ impl Three {
         }
     }
 
-    fn estimates(&mut self, question: Question) -> [u32; 3] {
-        let mut estimates = [0; 3];
-        for (estimate, engine) in estimates.iter_mut().zip(&mut self.engines) {
-            *estimate = engine.estimate(question.divisor(), question.dividend());
-        }
-        estimates
-    }
-
     // One more for each engine whose whole quotient is not the machine's: none, as is proved.
-    fn quotients(&mut self, mut count: u32, question: Question) -> u32
+    fn quotients(&mut self, count: u32, question: Question) -> u32
         ensures { result ≡ count }
     {
         let machine = (question.dividend() / question.divisor() as u64) as u32;
-        for engine in &mut self.engines {
-            let whole = whole_quotient(engine, question.divisor(), question.dividend());
-            count = counted(count, machine, whole);
-        }
-        count
+        let digits = whole_quotient(&mut self.digits, question.divisor(), question.dividend());
+        let radix4 = whole_quotient(&mut self.radix4, question.divisor(), question.dividend());
+        let cubic = whole_quotient(&mut self.cubic, question.divisor(), question.dividend());
+        counted(
+            counted(counted(count, machine, digits), machine, radix4),
+            machine,
+            cubic,
+        )
     }
 
     // One more for each engine over which a quotient is rounded otherwise than over `digits`: none, as is proved.
-    fn rounded(&mut self, mut count: u32, question: Question) -> u32
+    fn rounded(&mut self, count: u32, question: Question) -> u32
         ensures { result ≡ count }
     {
         let dividend = Encoding::from_bits((question.dividend() % 4294967296) as u32);
         let divisor = Encoding::from_bits(question.divisor().wrapping_mul(2654435761));
-        let wanted = rounded_over(&mut self.engines[0], dividend, divisor);
-        for engine in &mut self.engines[1..] {
-            count = counted(count, wanted, rounded_over(engine, dividend, divisor));
-        }
-        count
+        let digits = rounded_over(&mut self.digits, dividend, divisor);
+        let radix4 = rounded_over(&mut self.radix4, dividend, divisor);
+        let cubic = rounded_over(&mut self.cubic, dividend, divisor);
+        counted(counted(count, digits, radix4), digits, cubic)
     }
 }
 

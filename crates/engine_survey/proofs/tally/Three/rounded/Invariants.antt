@@ -1,5 +1,0 @@
-use Rattle.std.proofs.Common.{◌≡◌}
-use Rattle.engine_survey.proofs.tally.Three.rounded.Given as goal
-
-abbrev pub invariant-loop-engine : goal.invariant-loop-engine
-invariant-loop-engine l = l.count ≡ l.fn.count
